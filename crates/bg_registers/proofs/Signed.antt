@@ -1,0 +1,32 @@
+-- The difference of two unsigned numbers as the machine has it, once over the width.
+use Prim.Native.Nat.{ℕ, zero, suc, _-_, _^_, _<_}
+use mathlib.Core.Path.{_≡_, refl}
+use mathlib.Core.Bool.{Bool, true, false, cond}
+use native.Mathlib.Omega.{arith}
+use lib.Dec.{ltb}
+use lib.IntN.{ℤ, pos, negsuc, _-ℤ_}
+use lib.Signed.{mag}
+use mir.Syntax.{Width}
+use mir.Val.{SFits, toZ, ofZ, hbits}
+use mir.ValLaws.{toZ-ofZ, toZ-pos}
+
+pick-small : (t : Bool) (x y : ℤ) (k : ℕ) → mag x < k → mag y < k → mag (cond t x y) < k
+pick-small true x y k p q = p
+pick-small false x y k p q = q
+
+-- it is no further from zero than the two are
+pub difference-small : (a b k : ℕ) → a < k → b < k → mag (pos a -ℤ pos b) < k
+difference-small a zero k p q = omega arith
+difference-small a (suc b) k p q =
+    pick-small (ltb a (suc b)) (negsuc (suc b - suc a)) (pos (a - suc b)) k (omega arith) (omega arith)
+
+module _ (w : Width) (a b : ℕ) (p : a < 2 ^ hbits w) (q : b < 2 ^ hbits w) where
+  pub difference : toZ w a -ℤ toZ w b ≡ pos a -ℤ pos b
+  difference = rw (toZ-pos w a p, toZ-pos w b q)
+
+  pub difference-fits : SFits w (pos a -ℤ pos b)
+  difference-fits = record { sfits = difference-small a b (2 ^ hbits w) p q }
+
+  -- read back from its bits
+  pub difference-read : toZ w (ofZ w (toZ w a -ℤ toZ w b)) ≡ pos a -ℤ pos b
+  difference-read = rw difference (toZ-ofZ w (pos a -ℤ pos b) difference-fits)

@@ -1,0 +1,103 @@
+// What the public calls of this crate stand on, for the crates above.
+use crate::MapSize;
+use crate::Scroll;
+use registers::PPURegisters;
+use registers::inner::bit;
+use registers::inner::nibble;
+ghost use mathlib.Core.Path.{_≡_};
+ghost use Prim.Native.Nat.{_<_};
+ghost use Rattle.bg_registers.specs.Backgrounds.{mapBase, tileBase, mapSize, ofFour, scrollOf, tile16Of};
+ghost use Rattle.bg_registers.specs.Mosaic.{mosaicSize, mosaicOn, voffset, blockOf, offsetOf};
+
+pub fn bg_tilemap_addr(r: PPURegisters, bg: usize) -> u16
+    requires { ⌜ bg < 4 ⌝ }
+    ensures { λ a. ⌜ a ≡ mapBase r bg ⌝ }
+{
+    (r.bgsc[bg] / 4 % 32) as u16 * 1024
+}
+
+pub fn bg_tiledata_addr(r: PPURegisters, bg: usize) -> u16
+    ensures { λ a. ⌜ a ≡ tileBase r bg ⌝ }
+{
+    (nibble(r.bg12nba, r.bg34nba, bg) % 8) as u16 * 4096
+}
+
+pub fn bg_tilemap_size(r: PPURegisters, bg: usize) -> MapSize
+    requires { ⌜ bg < 4 ⌝ }
+    ensures { λ s. ⌜ s ≡ mapSize r bg ⌝ }
+{
+    let byte = r.bgsc[bg];
+    MapSize {
+        w64: bit(byte, 0),
+        h64: bit(byte, 1),
+    }
+}
+
+// Of four numbers, BG1's apart from the others', the one of background bg.
+fn one_of_four(first: u16, others: [u16; 3], bg: usize) -> u16
+    requires { ⌜ bg < 4 ⌝ }
+    ensures { λ n. ⌜ n ≡ ofFour first others bg ⌝ }
+{
+    if bg == 0 { first } else { others[bg - 1] }
+}
+
+pub fn bg_scroll(r: PPURegisters, bg: usize) -> Scroll
+    requires { ⌜ bg < 4 ⌝ }
+    ensures { λ s. ⌜ s ≡ scrollOf r bg ⌝ }
+{
+    let across = r.bghofs;
+    let down = r.bgvofs;
+    Scroll {
+        x: one_of_four(r.bg1hofs, across, bg),
+        y: one_of_four(r.bg1vofs, down, bg),
+    }
+}
+
+pub fn bg_tile16(r: PPURegisters, bg: usize) -> bool
+    requires { ⌜ bg < 4 ⌝ }
+    ensures { λ t. ⌜ t ≡ tile16Of r bg ⌝ }
+{
+    bit(r.bgmode, 4 + bg)
+}
+
+pub fn mosaic_size(r: PPURegisters) -> u8
+    ensures { λ n. ⌜ n ≡ mosaicSize r ⌝ }
+{
+    r.mosaic / 16 + 1
+}
+
+pub fn bg_mosaic(r: PPURegisters, bg: usize) -> bool
+    requires { ⌜ bg < 4 ⌝ }
+    ensures { λ t. ⌜ t ≡ mosaicOn r bg ⌝ }
+{
+    bit(r.mosaic, bg)
+}
+
+// The mosaic size less the counter, below zero where the counter is larger.
+pub fn mosaic_voffset(r: PPURegisters) -> i16
+    ensures { λ n. ⌜ n ≡ voffset r ⌝ }
+{
+    let size = mosaic_size(r);
+    let counter = r.mosaic_vcounter;
+    size as i16 - counter as i16
+}
+
+// The mosaic block of background bg.
+pub fn bg_mosaic_block(r: PPURegisters, bg: usize) -> u8
+    requires { ⌜ bg < 4 ⌝ }
+    ensures { λ n. ⌜ n ≡ blockOf r bg ⌝ }
+{
+    if bg_mosaic(r, bg) { mosaic_size(r) } else { 1 }
+}
+
+// The mosaic offset of background bg.
+pub fn bg_mosaic_voffset(r: PPURegisters, bg: usize) -> i16
+    requires { ⌜ bg < 4 ⌝ }
+    ensures { λ n. ⌜ n ≡ offsetOf r bg ⌝ }
+{
+    if bg_mosaic(r, bg) {
+        mosaic_voffset(r)
+    } else {
+        0
+    }
+}

@@ -1,0 +1,10 @@
+use native.Mathlib.Omega.{arith}
+use borrow.Author.Needs.{needs}
+use Rattle.colour.proofs.inner.channel.Statement.{statement}
+use Rattle.colour.proofs.inner.channel.Tie as tie
+
+returns : tie.Need-returns
+returns c = ((cc), omega arith)
+
+pub channel-spec : {M : Type 1} → statement M
+channel-spec = tie.close (tie.spec (λ c κs. search needs) (λ c κs. search needs) returns)

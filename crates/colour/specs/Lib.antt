@@ -1,0 +1,3 @@
+pub mod Colour
+pub mod Answers
+pub mod Bit15

@@ -1,0 +1,19 @@
+-- What a call that may refuse answers, in the paper's own terms: a value, or a refusal's number.
+-- For each answer enum of a crate a definition gives its meaning here, case by case, and the promises use that definition.
+use Prim.Native.Nat.{ℕ}
+use mathlib.Core.Bool.{Bool, true, false}
+
+pub data Answer (A : Type 0) : Type 0 where
+  value : A → Answer A
+  refused : ℕ → Answer A
+
+-- what follows, where the test holds, and otherwise the number; a chain of these gives the lowest number first
+abbrev pub provided : {A : Type 0} → Bool → ℕ → Answer A → Answer A
+provided true n a = a
+provided false n a = refused n
+
+infixr 20 _andThen_
+-- the tests of a call and what it answers once they are passed
+abbrev pub _andThen_ : {A : Type 0} → Answer Unit → Answer A → Answer A
+value _ andThen a = a
+refused n andThen a = refused n

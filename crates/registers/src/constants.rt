@@ -1,0 +1,10 @@
+// The sizes that document 01 fixes, with the Rust's names where it has one.
+
+// Screen width in pixels.
+pub const SCREEN_WIDTH: usize = 256;
+// Backgrounds: BG1 to BG4 are 0 to 3.
+pub const BACKGROUNDS: usize = 4;
+// Layers: the backgrounds, then the sprites.
+pub const LAYERS: usize = 5;
+// The largest mosaic counter.
+pub const LARGEST_COUNTER: u8 = 16;

@@ -1,0 +1,68 @@
+// What the decoders stand on. VRAM is read in `word`, and nowhere else.
+ghost use mathlib.Core.Path.{_≡_};
+ghost use Prim.Native.Nat.{_^_, _<_};
+ghost use Rattle.tiles.specs.Tiles.{wordAt, planeWord, pairOf, pairAt, indexOf};
+
+// The words of VRAM.
+pub const VRAM_WORDS: usize = 32768;
+
+// The word at an address, taken mod 32,768; 0 where VRAM is shorter.
+pub fn word(vram: &[u16], address: usize) -> u16
+    ensures { λ r. ⌜ r ≡ wordAt (now (vram .entry)) address ⌝ }
+{
+    let at = address % VRAM_WORDS;
+    if at < vram.len() { vram[at] } else { 0 }
+}
+
+// The word of a tile's row in one of its plane pairs, 8 words apart.
+pub fn plane_word(vram: &[u16], base: usize, row: usize, pair: usize) -> u16
+    requires { ⌜ (row < 8) × (pair < 4) ⌝ }
+    ensures { λ r. ⌜ r ≡ planeWord (now (vram .entry)) base row pair ⌝ }
+{
+    word(vram, base % VRAM_WORDS + row + pair * 8)
+}
+
+// The two bits of a column in such a word: the low byte is the lower plane, bit 7 the leftmost.
+pub fn two_bits(word: u16, col: usize) -> u8
+    requires { ⌜ col < 8 ⌝ }
+    ensures { λ r. ⌜ (r ≡ pairOf word col) × (r < 4) ⌝ }
+{
+    ((word >> (7 - col)) % 2 + (word >> (15 - col)) % 2 * 2) as u8
+}
+
+// The two bits that a plane pair has of pixel (x, y).
+pub fn plane_pair(vram: &[u16], base: usize, x: usize, y: usize, pair: usize) -> u8
+    requires { ⌜ (x < 8) × ((y < 8) × (pair < 4)) ⌝ }
+    ensures { λ r. ⌜ (r ≡ pairAt (now (vram .entry)) base x y pair) × (r < 4) ⌝ }
+{
+    two_bits(plane_word(vram, base, y, pair), x)
+}
+
+pub fn decode_2bpp(vram: &[u16], base: usize, x: usize, y: usize) -> u8
+    requires { ⌜ (x < 8) × (y < 8) ⌝ }
+    ensures { λ r. ⌜ (r ≡ indexOf (now (vram .entry)) base x y 1) × (r < 4) ⌝ }
+{
+    plane_pair(vram, base, x, y, 0)
+}
+
+pub fn decode_4bpp(vram: &[u16], base: usize, x: usize, y: usize) -> u8
+    requires { ⌜ (x < 8) × (y < 8) ⌝ }
+    ensures { λ r. ⌜ (r ≡ indexOf (now (vram .entry)) base x y 2) × (r < 16) ⌝ }
+{
+    let low = plane_pair(vram, base, x, y, 0);
+    let high = plane_pair(vram, base, x, y, 1);
+    low + 4 * high
+}
+
+pub fn decode_8bpp(vram: &[u16], base: usize, x: usize, y: usize) -> u8
+    requires { ⌜ (x < 8) × (y < 8) ⌝ }
+    ensures { λ r. ⌜ r ≡ indexOf (now (vram .entry)) base x y 4 ⌝ }
+{
+    let mut index: u16 = 0;
+    let mut weight: u16 = 1;
+    for pair in 0..4 {
+        index += weight * plane_pair(vram, base, x, y, pair) as u16;
+        weight *= 4;
+    }
+    index as u8
+}

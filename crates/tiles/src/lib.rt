@@ -1,0 +1,101 @@
+// Tiles in VRAM, and the colour indexes of their pixels. Follows mode_0.rs, mode_1.rs and
+// mode_3.rs, with their names.
+pub mod inner;
+
+use inner::VRAM_WORDS;
+use refusal::Refusal;
+use refusal::Verdict;
+ghost use mathlib.Core.Path.{_≡_};
+ghost use lib.ListN.{length};
+ghost use Prim.Native.Nat.{_<_};
+ghost use Rattle.refusal.specs.Answer.{value, _andThen_};
+ghost use Rattle.refusal.specs.Verdicts.{verdictMeans, Passed};
+ghost use Rattle.tiles.specs.Tiles.{tileWords, indexOf, tileTests};
+ghost use Rattle.tiles.specs.Answers.{indexMeans};
+
+// The bits of a pixel's colour index.
+pub enum BitDepth {
+    Two,
+    Four,
+    Eight,
+}
+
+impl BitDepth {
+    // The words of a tile in VRAM.
+    pub fn tile_words(self) -> usize
+        ensures { λ r. ⌜ r ≡ tileWords self ⌝ }
+    {
+        match self {
+            BitDepth::Two => 8,
+            BitDepth::Four => 16,
+            BitDepth::Eight => 32,
+        }
+    }
+}
+
+pub enum IndexAnswer {
+    Is(u8),
+    Refused(Refusal),
+}
+
+// The tests of the three decoders: VRAM's length, then the tile word and the pixel.
+fn tested(vram_len: usize, tile_word_base: usize, x: usize, y: usize) -> Verdict
+    ensures { λ r. ⌜ (verdictMeans r ≡ tileTests «vram_len» «tile_word_base» x y) × (Passed r → (x < 8) × (y < 8)) ⌝ }
+{
+    if vram_len != VRAM_WORDS {
+        return Verdict::Refused(Refusal::Vram);
+    }
+    if tile_word_base < 65536 {
+        if x < 8 {
+            if y < 8 {
+                return Verdict::Fine;
+            }
+        }
+    }
+    Verdict::Refused(Refusal::Argument)
+}
+
+// The colour index, 0 to 3, of pixel (x, y) in the 2bpp tile at a word of VRAM.
+pub fn decode_2bpp_tile_pixel_from(
+    vram: &[u16],
+    tile_word_base: usize,
+    x: usize,
+    y: usize,
+) -> IndexAnswer
+    ensures { λ r. ⌜ indexMeans r ≡ (tileTests (length (now (vram .entry))) «tile_word_base» x y andThen value (indexOf (now (vram .entry)) «tile_word_base» x y 1)) ⌝ }
+{
+    match tested(vram.len(), tile_word_base, x, y) {
+        Verdict::Fine => IndexAnswer::Is(inner::decode_2bpp(vram, tile_word_base, x, y)),
+        Verdict::Refused(n) => IndexAnswer::Refused(n),
+    }
+}
+
+// The same, 0 to 15, in a 4bpp tile.
+pub fn decode_4bpp_tile_pixel_from(
+    vram: &[u16],
+    tile_word_base: usize,
+    x: usize,
+    y: usize,
+) -> IndexAnswer
+    ensures { λ r. ⌜ indexMeans r ≡ (tileTests (length (now (vram .entry))) «tile_word_base» x y andThen value (indexOf (now (vram .entry)) «tile_word_base» x y 2)) ⌝ }
+{
+    match tested(vram.len(), tile_word_base, x, y) {
+        Verdict::Fine => IndexAnswer::Is(inner::decode_4bpp(vram, tile_word_base, x, y)),
+        Verdict::Refused(n) => IndexAnswer::Refused(n),
+    }
+}
+
+// The same, 0 to 255, in an 8bpp tile.
+pub fn decode_8bpp_tile_pixel_from(
+    vram: &[u16],
+    tile_word_base: usize,
+    x: usize,
+    y: usize,
+) -> IndexAnswer
+    ensures { λ r. ⌜ indexMeans r ≡ (tileTests (length (now (vram .entry))) «tile_word_base» x y andThen value (indexOf (now (vram .entry)) «tile_word_base» x y 4)) ⌝ }
+{
+    match tested(vram.len(), tile_word_base, x, y) {
+        Verdict::Fine => IndexAnswer::Is(inner::decode_8bpp(vram, tile_word_base, x, y)),
+        Verdict::Refused(n) => IndexAnswer::Refused(n),
+    }
+}
