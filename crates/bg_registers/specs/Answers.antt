@@ -1,23 +1,13 @@
 -- What each answer of this crate means, case by case: the value, or the paper's number.
-use Prim.Native.Nat.{ℕ}
 use mathlib.Core.Path.{_≡_, ap}
-use lib.IntN.{ℤ}
 use Rattle.refusal.specs.Numbers.{numberOf, one-number}
 use Rattle.refusal.specs.Answer.{Answer, value, refused}
 use Rattle.bg_registers.specs.declared.MapSize.{MapSize}
 use Rattle.bg_registers.specs.declared.Scroll.{Scroll}
-use Rattle.bg_registers.specs.declared.WordAnswer.{WordAnswer}
-use Rattle.bg_registers.specs.declared.WordAnswer.the-variants as W
 use Rattle.bg_registers.specs.declared.SizeAnswer.{SizeAnswer}
 use Rattle.bg_registers.specs.declared.SizeAnswer.the-variants as M
 use Rattle.bg_registers.specs.declared.ScrollAnswer.{ScrollAnswer}
 use Rattle.bg_registers.specs.declared.ScrollAnswer.the-variants as S
-use Rattle.bg_registers.specs.declared.OffsetAnswer.{OffsetAnswer}
-use Rattle.bg_registers.specs.declared.OffsetAnswer.the-variants as O
-
-abbrev pub wordMeans : WordAnswer → Answer ℕ
-wordMeans (W.Is n) = value n
-wordMeans (W.Refused r) = refused (numberOf r)
 
 abbrev pub sizeMeans : SizeAnswer → Answer MapSize
 sizeMeans (M.Is s) = value s
@@ -27,17 +17,7 @@ abbrev pub scrollMeans : ScrollAnswer → Answer Scroll
 scrollMeans (S.Is s) = value s
 scrollMeans (S.Refused r) = refused (numberOf r)
 
-abbrev pub offsetMeans : OffsetAnswer → Answer ℤ
-offsetMeans (O.Is z) = value z
-offsetMeans (O.Refused r) = refused (numberOf r)
-
 -- the meaning settles the answer
-pub one-word : (a b : WordAnswer) → wordMeans a ≡ wordMeans b → a ≡ b
-one-word (W.Is x) (W.Is y) e = cc
-one-word (W.Is x) (W.Refused r) e = cc
-one-word (W.Refused r) (W.Is y) e = cc
-one-word (W.Refused r) (W.Refused s) e = ap W.Refused (one-number r s (cc))
-
 pub one-size : (a b : SizeAnswer) → sizeMeans a ≡ sizeMeans b → a ≡ b
 one-size (M.Is x) (M.Is y) e = cc
 one-size (M.Is x) (M.Refused r) e = cc
@@ -49,9 +29,3 @@ one-scroll (S.Is x) (S.Is y) e = cc
 one-scroll (S.Is x) (S.Refused r) e = cc
 one-scroll (S.Refused r) (S.Is y) e = cc
 one-scroll (S.Refused r) (S.Refused s) e = ap S.Refused (one-number r s (cc))
-
-pub one-offset : (a b : OffsetAnswer) → offsetMeans a ≡ offsetMeans b → a ≡ b
-one-offset (O.Is x) (O.Is y) e = cc
-one-offset (O.Is x) (O.Refused r) e = cc
-one-offset (O.Refused r) (O.Is y) e = cc
-one-offset (O.Refused r) (O.Refused s) e = ap O.Refused (one-number r s (cc))

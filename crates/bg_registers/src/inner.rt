@@ -7,7 +7,6 @@ use registers::inner::nibble;
 ghost use mathlib.Core.Path.{_≡_};
 ghost use Prim.Native.Nat.{_<_};
 ghost use Rattle.bg_registers.specs.Backgrounds.{mapBase, tileBase, mapSize, ofFour, scrollOf, tile16Of};
-ghost use Rattle.bg_registers.specs.Mosaic.{mosaicSize, mosaicOn, voffset, blockOf, offsetOf};
 
 pub fn bg_tilemap_addr(r: PPURegisters, bg: usize) -> u16
     requires { ⌜ bg < 4 ⌝ }
@@ -58,46 +57,4 @@ pub fn bg_tile16(r: PPURegisters, bg: usize) -> bool
     ensures { λ t. ⌜ t ≡ tile16Of r bg ⌝ }
 {
     bit(r.bgmode, 4 + bg)
-}
-
-pub fn mosaic_size(r: PPURegisters) -> u8
-    ensures { λ n. ⌜ n ≡ mosaicSize r ⌝ }
-{
-    r.mosaic / 16 + 1
-}
-
-pub fn bg_mosaic(r: PPURegisters, bg: usize) -> bool
-    requires { ⌜ bg < 4 ⌝ }
-    ensures { λ t. ⌜ t ≡ mosaicOn r bg ⌝ }
-{
-    bit(r.mosaic, bg)
-}
-
-// The mosaic size less the counter, below zero where the counter is larger.
-pub fn mosaic_voffset(r: PPURegisters) -> i16
-    ensures { λ n. ⌜ n ≡ voffset r ⌝ }
-{
-    let size = mosaic_size(r);
-    let counter = r.mosaic_vcounter;
-    size as i16 - counter as i16
-}
-
-// The mosaic block of background bg.
-pub fn bg_mosaic_block(r: PPURegisters, bg: usize) -> u8
-    requires { ⌜ bg < 4 ⌝ }
-    ensures { λ n. ⌜ n ≡ blockOf r bg ⌝ }
-{
-    if bg_mosaic(r, bg) { mosaic_size(r) } else { 1 }
-}
-
-// The mosaic offset of background bg.
-pub fn bg_mosaic_voffset(r: PPURegisters, bg: usize) -> i16
-    requires { ⌜ bg < 4 ⌝ }
-    ensures { λ n. ⌜ n ≡ offsetOf r bg ⌝ }
-{
-    if bg_mosaic(r, bg) {
-        mosaic_voffset(r)
-    } else {
-        0
-    }
 }

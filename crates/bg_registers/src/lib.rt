@@ -1,21 +1,20 @@
-// What document 01 reads of a background from the registers: map, tiles, scroll and mosaic.
+// What document 01 reads of a background from the registers: map, tiles and scroll.
 //
-// Follows registers.rs and ppu.rs, with their names. A public call tests its own arguments and then
+// Follows registers.rs, with its names. A public call tests its own arguments and then
 // asks `inner`, where the work is done.
 pub mod inner;
 
 use refusal::Refusal;
 use registers::BoolAnswer;
 use registers::PPURegisters;
+use registers::WordAnswer;
 use registers::constants::BACKGROUNDS;
-use registers::constants::LARGEST_COUNTER;
 ghost use mathlib.Core.Path.{_≡_};
 ghost use Rattle.refusal.specs.Answer.{value};
-ghost use Rattle.registers.specs.Answers.{boolMeans};
+ghost use Rattle.registers.specs.Answers.{boolMeans, wordMeans};
 ghost use Rattle.registers.specs.Bits.{ofBackground};
-ghost use Rattle.bg_registers.specs.Answers.{wordMeans, sizeMeans, scrollMeans, offsetMeans};
+ghost use Rattle.bg_registers.specs.Answers.{sizeMeans, scrollMeans};
 ghost use Rattle.bg_registers.specs.Backgrounds.{mapBase, tileBase, mapSize, scrollOf, tile16Of};
-ghost use Rattle.bg_registers.specs.Mosaic.{mosaicSize, mosaicOn, blockOf, voffset, offsetOf, counted};
 
 // A background map's size: 64 tiles wide, 64 tiles tall; otherwise 32.
 pub struct MapSize {
@@ -29,11 +28,6 @@ pub struct Scroll {
     pub y: u16,
 }
 
-pub enum WordAnswer {
-    Is(u16),
-    Refused(Refusal),
-}
-
 pub enum SizeAnswer {
     Is(MapSize),
     Refused(Refusal),
@@ -41,11 +35,6 @@ pub enum SizeAnswer {
 
 pub enum ScrollAnswer {
     Is(Scroll),
-    Refused(Refusal),
-}
-
-pub enum OffsetAnswer {
-    Is(i16),
     Refused(Refusal),
 }
 
@@ -101,60 +90,5 @@ pub fn bg_tile16(r: PPURegisters, bg: usize) -> BoolAnswer
         BoolAnswer::Is(inner::bg_tile16(r, bg))
     } else {
         BoolAnswer::Refused(Refusal::Argument)
-    }
-}
-
-// Is mosaic on for it?
-pub fn bg_mosaic(r: PPURegisters, bg: usize) -> BoolAnswer
-    ensures { λ a. ⌜ boolMeans a ≡ ofBackground bg (value (mosaicOn r bg)) ⌝ }
-{
-    if bg < BACKGROUNDS {
-        BoolAnswer::Is(inner::bg_mosaic(r, bg))
-    } else {
-        BoolAnswer::Refused(Refusal::Argument)
-    }
-}
-
-// The mosaic size, 1 to 16.
-pub fn mosaic_size(r: PPURegisters) -> u8
-    ensures { λ a. ⌜ a ≡ mosaicSize r ⌝ }
-{
-    inner::mosaic_size(r)
-}
-
-// Lines since the top of the mosaic block: the size less the counter, below zero where the
-// counter is larger.
-pub fn mosaic_voffset(r: PPURegisters) -> OffsetAnswer
-    ensures { λ a. ⌜ offsetMeans a ≡ counted r (value (voffset r)) ⌝ }
-{
-    if r.mosaic_vcounter <= LARGEST_COUNTER {
-        OffsetAnswer::Is(inner::mosaic_voffset(r))
-    } else {
-        OffsetAnswer::Refused(Refusal::Counter)
-    }
-}
-
-// The mosaic block of background bg: the size, or 1 with its mosaic off.
-pub fn bg_mosaic_block(r: PPURegisters, bg: usize) -> WordAnswer
-    ensures { λ a. ⌜ wordMeans a ≡ ofBackground bg (value (blockOf r bg)) ⌝ }
-{
-    if bg < BACKGROUNDS {
-        WordAnswer::Is(inner::bg_mosaic_block(r, bg) as u16)
-    } else {
-        WordAnswer::Refused(Refusal::Argument)
-    }
-}
-
-// Its mosaic offset: that of mosaic_voffset, or 0 with its mosaic off.
-pub fn bg_mosaic_voffset(r: PPURegisters, bg: usize) -> OffsetAnswer
-    ensures { λ a. ⌜ offsetMeans a ≡ counted r (ofBackground bg (value (offsetOf r bg))) ⌝ }
-{
-    if LARGEST_COUNTER < r.mosaic_vcounter {
-        return OffsetAnswer::Refused(Refusal::Counter);
-    }
-    if bg < BACKGROUNDS {
-        OffsetAnswer::Is(inner::bg_mosaic_voffset(r, bg))
-    } else {
-        OffsetAnswer::Refused(Refusal::Argument)
     }
 }

@@ -2,6 +2,8 @@
 
 // Screen width in pixels.
 pub const SCREEN_WIDTH: usize = 256;
+// Screen height in pixels.
+pub const SCREEN_HEIGHT: usize = 224;
 // Backgrounds: BG1 to BG4 are 0 to 3.
 pub const BACKGROUNDS: usize = 4;
 // Layers: the backgrounds, then the sprites.

@@ -52,6 +52,11 @@ pub enum BoolAnswer {
     Refused(Refusal),
 }
 
+pub enum WordAnswer {
+    Is(u16),
+    Refused(Refusal),
+}
+
 // A layer's bit of tm, ts, tmw or tsw.
 fn layer_bit(value: u8, layer: usize) -> BoolAnswer
     ensures { λ r. ⌜ boolMeans r ≡ layerBit value layer ⌝ }

@@ -7,32 +7,20 @@ use registers::BoolAnswer;
 use registers::PPURegisters;
 use registers::constants::BACKGROUNDS;
 use registers::constants::SCREEN_WIDTH;
+use window::Window;
 ghost use mathlib.Core.Path.{_≡_};
 ghost use Rattle.refusal.specs.Answer.{value};
 ghost use Rattle.registers.specs.Answers.{boolMeans};
 ghost use Rattle.registers.specs.Bits.{ofBackground};
-ghost use Rattle.windows.specs.Windows.{atColumn, inside, masked, bgWindow, spriteWindow, colourWindow};
-
-// The window of a layer, or the colour window: two ranges of columns, the bits that invert and
-// enable each, and the logic, 0 to 3, that joins them.
-pub struct Window {
-    pub left1: u8,
-    pub right1: u8,
-    pub left2: u8,
-    pub right2: u8,
-    pub invert1: bool,
-    pub enable1: bool,
-    pub invert2: bool,
-    pub enable2: bool,
-    pub logic: u8,
-}
+ghost use Rattle.window.specs.Window.{inside, masked};
+ghost use Rattle.windows.specs.Windows.{atColumn, bgWindow, spriteWindow, colourWindow};
 
 // Does the window hold column x?
 fn at_column(w: Window, x: usize) -> BoolAnswer
     ensures { λ r. ⌜ boolMeans r ≡ atColumn x (value (masked w x)) ⌝ }
 {
     if x < SCREEN_WIDTH {
-        BoolAnswer::Is(inner::window_masked(w, x))
+        BoolAnswer::Is(w.masked(x))
     } else {
         BoolAnswer::Refused(Refusal::Argument)
     }
@@ -43,7 +31,7 @@ fn between(left: u8, right: u8, x: usize) -> BoolAnswer
     ensures { λ r. ⌜ boolMeans r ≡ atColumn x (value (inside left right x)) ⌝ }
 {
     if x < SCREEN_WIDTH {
-        BoolAnswer::Is(inner::inside(left, right, x))
+        BoolAnswer::Is(window::inside(left, right, x))
     } else {
         BoolAnswer::Refused(Refusal::Argument)
     }

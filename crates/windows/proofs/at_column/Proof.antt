@@ -4,7 +4,7 @@ use Rattle.windows.proofs.at_column.Statement.{statement}
 use Rattle.windows.proofs.at_column.Tie as tie
 
 returns : tie.Need-returns
-returns c = simp (lt-ltb _ _ (c .before .if1 .taken), c .window-masked .ensures)
+returns c = simp (lt-ltb _ _ (c .before .if1 .taken), c .masked .ensures)
 
 returns-2 : tie.Need-returns-2
 returns-2 c = simp (le-ltb _ _ (c .if1 .left))

@@ -1,4 +1,5 @@
-use Rattle.windows.specs.Windows.{atColumn, masked}
+use Rattle.window.specs.Window.{masked}
+use Rattle.windows.specs.Windows.{atColumn}
 use Rattle.refusal.specs.Answer.{value}
 use mathlib.Core.Path.{_∙_}
 use borrow.Author.Needs.{needs}

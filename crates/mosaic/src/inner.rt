@@ -1,0 +1,48 @@
+// What the public calls of this crate stand on, for the crates above.
+use registers::PPURegisters;
+use registers::inner::bit;
+ghost use mathlib.Core.Path.{_≡_};
+ghost use Prim.Native.Nat.{_<_};
+ghost use Rattle.mosaic.specs.Mosaic.{mosaicSize, mosaicOn, voffset, blockOf, offsetOf};
+
+pub fn mosaic_size(r: PPURegisters) -> u8
+    ensures { λ n. ⌜ n ≡ mosaicSize r ⌝ }
+{
+    r.mosaic / 16 + 1
+}
+
+pub fn bg_mosaic(r: PPURegisters, bg: usize) -> bool
+    requires { ⌜ bg < 4 ⌝ }
+    ensures { λ t. ⌜ t ≡ mosaicOn r bg ⌝ }
+{
+    bit(r.mosaic, bg)
+}
+
+// The mosaic size less the counter, below zero where the counter is larger.
+pub fn mosaic_voffset(r: PPURegisters) -> i16
+    ensures { λ n. ⌜ n ≡ voffset r ⌝ }
+{
+    let size = mosaic_size(r);
+    let counter = r.mosaic_vcounter;
+    size as i16 - counter as i16
+}
+
+// The mosaic block of background bg.
+pub fn bg_mosaic_block(r: PPURegisters, bg: usize) -> u8
+    requires { ⌜ bg < 4 ⌝ }
+    ensures { λ n. ⌜ n ≡ blockOf r bg ⌝ }
+{
+    if bg_mosaic(r, bg) { mosaic_size(r) } else { 1 }
+}
+
+// The mosaic offset of background bg.
+pub fn bg_mosaic_voffset(r: PPURegisters, bg: usize) -> i16
+    requires { ⌜ bg < 4 ⌝ }
+    ensures { λ n. ⌜ n ≡ offsetOf r bg ⌝ }
+{
+    if bg_mosaic(r, bg) {
+        mosaic_voffset(r)
+    } else {
+        0
+    }
+}

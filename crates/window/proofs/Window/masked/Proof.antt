@@ -1,0 +1,17 @@
+use borrow.Author.Needs.{needs}
+use Rattle.window.proofs.Window.masked.Statement.{statement}
+use Rattle.window.proofs.Window.masked.Tie as tie
+
+returns : tie.Need-returns
+returns c = cc
+
+pub masked-spec : {M : Type 1} → statement M
+masked-spec =
+    tie.close
+    (tie.spec
+    (λ c κs. search needs)
+    (λ c κs. search needs)
+    (λ c κs. search needs)
+    (λ c κs. search needs)
+    (λ c κs. search needs)
+    returns)
