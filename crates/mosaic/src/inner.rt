@@ -2,11 +2,11 @@
 use registers::PPURegisters;
 use registers::inner::bit;
 ghost use mathlib.Core.Path.{_≡_};
-ghost use Prim.Native.Nat.{_<_};
+ghost use Prim.Native.Nat.{_<_, _≤_};
 ghost use Rattle.mosaic.specs.Mosaic.{mosaicSize, mosaicOn, voffset, blockOf, offsetOf};
 
 pub fn mosaic_size(r: PPURegisters) -> u8
-    ensures { λ n. ⌜ n ≡ mosaicSize r ⌝ }
+    ensures { λ n. ⌜ (n ≡ mosaicSize r) × ((0 < n) × (n ≤ 16)) ⌝ }
 {
     r.mosaic / 16 + 1
 }
@@ -30,7 +30,7 @@ pub fn mosaic_voffset(r: PPURegisters) -> i16
 // The mosaic block of background bg.
 pub fn bg_mosaic_block(r: PPURegisters, bg: usize) -> u8
     requires { ⌜ bg < 4 ⌝ }
-    ensures { λ n. ⌜ n ≡ blockOf r bg ⌝ }
+    ensures { λ n. ⌜ (n ≡ blockOf r bg) × ((0 < n) × (n ≤ 16)) ⌝ }
 {
     if bg_mosaic(r, bg) { mosaic_size(r) } else { 1 }
 }

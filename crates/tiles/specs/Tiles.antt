@@ -2,9 +2,9 @@
 use Prim.Native.Nat.{ℕ, zero, suc, _+_, _-_, _*_, _/_, _%_, _^_}
 use mathlib.Core.Bool.{Bool, _&&_}
 use mathlib.Core.List.{List}
-use lib.ListN.{getD}
+use lib.ListN.{length, getD}
 use lib.Dec.{eqb, ltb}
-use Rattle.refusal.specs.Answer.{Answer, value, provided}
+use Rattle.refusal.specs.Answer.{Answer, value, provided, _andThen_}
 use Rattle.tiles.specs.declared.BitDepth.{BitDepth}
 use Rattle.tiles.specs.declared.BitDepth.the-variants.{Two, Four, Eight}
 
@@ -42,6 +42,10 @@ tileWords Eight = 32
 
 -- VRAM of another length is refused 2; a tile word above 65,535 or a tile pixel above 7 is refused 7
 abbrev pub tileTests : ℕ → ℕ → ℕ → ℕ → Answer Unit
-tileTests length base x y =
-    provided (eqb length 32768) 2
+tileTests words base x y =
+    provided (eqb words 32768) 2
     (provided (ltb base 65536 && ltb x 8 && ltb y 8) 7 (value tt))
+
+-- what a decoder over n plane pairs answers
+abbrev pub tileAnswer : List ℕ → ℕ → ℕ → ℕ → ℕ → Answer ℕ
+tileAnswer v base x y n = tileTests (length v) base x y andThen value (indexOf v base x y n)

@@ -1,7 +1,8 @@
 // What the decoders stand on. VRAM is read in `word`, and nowhere else.
+use crate::BitDepth;
 ghost use mathlib.Core.Path.{_≡_};
 ghost use Prim.Native.Nat.{_^_, _<_};
-ghost use Rattle.tiles.specs.Tiles.{wordAt, planeWord, pairOf, pairAt, indexOf};
+ghost use Rattle.tiles.specs.Tiles.{wordAt, planeWord, pairOf, pairAt, indexOf, pairsOf};
 
 // The words of VRAM.
 pub const VRAM_WORDS: usize = 32768;
@@ -56,7 +57,7 @@ pub fn decode_4bpp(vram: &[u16], base: usize, x: usize, y: usize) -> u8
 
 pub fn decode_8bpp(vram: &[u16], base: usize, x: usize, y: usize) -> u8
     requires { ⌜ (x < 8) × (y < 8) ⌝ }
-    ensures { λ r. ⌜ r ≡ indexOf (now (vram .entry)) base x y 4 ⌝ }
+    ensures { λ r. ⌜ (r ≡ indexOf (now (vram .entry)) base x y 4) × (r < 256) ⌝ }
 {
     let mut index: u16 = 0;
     let mut weight: u16 = 1;
@@ -65,4 +66,16 @@ pub fn decode_8bpp(vram: &[u16], base: usize, x: usize, y: usize) -> u8
         weight *= 4;
     }
     index as u8
+}
+
+// The colour index of pixel (x, y) at a depth.
+pub fn color_index(vram: &[u16], bpp: BitDepth, base: usize, x: usize, y: usize) -> u8
+    requires { ⌜ (x < 8) × (y < 8) ⌝ }
+    ensures { λ r. ⌜ (r ≡ indexOf (now (vram .entry)) base x y (pairsOf bpp)) × (r < 4 ^ pairsOf bpp) ⌝ }
+{
+    match bpp {
+        BitDepth::Two => decode_2bpp(vram, base, x, y),
+        BitDepth::Four => decode_4bpp(vram, base, x, y),
+        BitDepth::Eight => decode_8bpp(vram, base, x, y),
+    }
 }

@@ -6,11 +6,9 @@ use inner::VRAM_WORDS;
 use refusal::Refusal;
 use refusal::Verdict;
 ghost use mathlib.Core.Path.{_≡_};
-ghost use lib.ListN.{length};
 ghost use Prim.Native.Nat.{_<_};
-ghost use Rattle.refusal.specs.Answer.{value, _andThen_};
 ghost use Rattle.refusal.specs.Verdicts.{verdictMeans, Passed};
-ghost use Rattle.tiles.specs.Tiles.{tileWords, indexOf, tileTests};
+ghost use Rattle.tiles.specs.Tiles.{pairsOf, tileWords, tileTests, tileAnswer};
 ghost use Rattle.tiles.specs.Answers.{indexMeans};
 
 // The bits of a pixel's colour index.
@@ -55,6 +53,16 @@ fn tested(vram_len: usize, tile_word_base: usize, x: usize, y: usize) -> Verdict
     Verdict::Refused(Refusal::Argument)
 }
 
+// The colour index of a pixel at a depth, once the tests are passed.
+fn decoded(vram: &[u16], bpp: BitDepth, tile_word_base: usize, x: usize, y: usize) -> IndexAnswer
+    ensures { λ r. ⌜ indexMeans r ≡ tileAnswer (now (vram .entry)) «tile_word_base» x y (pairsOf bpp) ⌝ }
+{
+    match tested(vram.len(), tile_word_base, x, y) {
+        Verdict::Fine => IndexAnswer::Is(inner::color_index(vram, bpp, tile_word_base, x, y)),
+        Verdict::Refused(n) => IndexAnswer::Refused(n),
+    }
+}
+
 // The colour index, 0 to 3, of pixel (x, y) in the 2bpp tile at a word of VRAM.
 pub fn decode_2bpp_tile_pixel_from(
     vram: &[u16],
@@ -62,12 +70,9 @@ pub fn decode_2bpp_tile_pixel_from(
     x: usize,
     y: usize,
 ) -> IndexAnswer
-    ensures { λ r. ⌜ indexMeans r ≡ (tileTests (length (now (vram .entry))) «tile_word_base» x y andThen value (indexOf (now (vram .entry)) «tile_word_base» x y 1)) ⌝ }
+    ensures { λ r. ⌜ indexMeans r ≡ tileAnswer (now (vram .entry)) «tile_word_base» x y 1 ⌝ }
 {
-    match tested(vram.len(), tile_word_base, x, y) {
-        Verdict::Fine => IndexAnswer::Is(inner::decode_2bpp(vram, tile_word_base, x, y)),
-        Verdict::Refused(n) => IndexAnswer::Refused(n),
-    }
+    decoded(vram, BitDepth::Two, tile_word_base, x, y)
 }
 
 // The same, 0 to 15, in a 4bpp tile.
@@ -77,12 +82,9 @@ pub fn decode_4bpp_tile_pixel_from(
     x: usize,
     y: usize,
 ) -> IndexAnswer
-    ensures { λ r. ⌜ indexMeans r ≡ (tileTests (length (now (vram .entry))) «tile_word_base» x y andThen value (indexOf (now (vram .entry)) «tile_word_base» x y 2)) ⌝ }
+    ensures { λ r. ⌜ indexMeans r ≡ tileAnswer (now (vram .entry)) «tile_word_base» x y 2 ⌝ }
 {
-    match tested(vram.len(), tile_word_base, x, y) {
-        Verdict::Fine => IndexAnswer::Is(inner::decode_4bpp(vram, tile_word_base, x, y)),
-        Verdict::Refused(n) => IndexAnswer::Refused(n),
-    }
+    decoded(vram, BitDepth::Four, tile_word_base, x, y)
 }
 
 // The same, 0 to 255, in an 8bpp tile.
@@ -92,10 +94,7 @@ pub fn decode_8bpp_tile_pixel_from(
     x: usize,
     y: usize,
 ) -> IndexAnswer
-    ensures { λ r. ⌜ indexMeans r ≡ (tileTests (length (now (vram .entry))) «tile_word_base» x y andThen value (indexOf (now (vram .entry)) «tile_word_base» x y 4)) ⌝ }
+    ensures { λ r. ⌜ indexMeans r ≡ tileAnswer (now (vram .entry)) «tile_word_base» x y 4 ⌝ }
 {
-    match tested(vram.len(), tile_word_base, x, y) {
-        Verdict::Fine => IndexAnswer::Is(inner::decode_8bpp(vram, tile_word_base, x, y)),
-        Verdict::Refused(n) => IndexAnswer::Refused(n),
-    }
+    decoded(vram, BitDepth::Eight, tile_word_base, x, y)
 }

@@ -4,7 +4,7 @@ use Rattle.mosaic.proofs.bg_mosaic_block.Statement.{statement}
 use Rattle.mosaic.proofs.bg_mosaic_block.Tie as tie
 
 returns : tie.Need-returns
-returns c = simp (lt-ltb _ _ (c .before .if1 .taken), c .bg-mosaic-block .ensures)
+returns c = simp (lt-ltb _ _ (c .before .if1 .taken), c .bg-mosaic-block .ensures .0)
 
 returns-2 : tie.Need-returns-2
 returns-2 c = simp (le-ltb _ _ (c .if1 .left))

@@ -11,7 +11,7 @@ sub-result : tie.Need-sub-result
 sub-result c = let a = c .mosaic-size .result in let b = c .before .args .r .«mosaic_vcounter» in rw (difference w16 a b (omega arith) (omega arith)) (difference-fits w16 a b (omega arith) (omega arith))
 
 returns : tie.Need-returns
-returns c = difference-read w16 (c .mosaic-size .result) (c .before .args .r .«mosaic_vcounter») (omega arith) (omega arith) ∙ (λ i. pos (c .mosaic-size .ensures i) -ℤ pos (c .before .args .r .«mosaic_vcounter»))
+returns c = difference-read w16 (c .mosaic-size .result) (c .before .args .r .«mosaic_vcounter») (omega arith) (omega arith) ∙ (λ i. pos (c .mosaic-size .ensures .0 i) -ℤ pos (c .before .args .r .«mosaic_vcounter»))
 
 pub mosaic-voffset-spec : {M : Type 1} → statement M
 mosaic-voffset-spec =

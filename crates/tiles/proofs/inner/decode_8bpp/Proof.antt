@@ -70,7 +70,10 @@ cast-result c =
 
 returns : tie.Need-returns Inv-loop μ-loop
 returns c =
-    let h : c .before .loop .pair ≡ 4 = omega arith in rw h at (c .before .loop .inv .1 .0)
+    let a = c .before .before .before .args in
+    let h : c .before .loop .pair ≡ 4 = omega arith in
+    let e = rw h at (c .before .loop .inv .1 .0) in
+    (e, rw e (index-small (a .vram .now) (a .base) (a .x) (a .y) 4))
 
 pub decode-8bpp-spec : {M : Type 1} → statement M
 decode-8bpp-spec =
