@@ -1,9 +1,10 @@
 -- What each answer of this crate means, case by case: the value, or the paper's number.
 use Prim.Native.Nat.{ℕ}
 use mathlib.Core.Bool.{Bool}
-use mathlib.Core.Path.{_≡_, ap}
-use Rattle.refusal.specs.Numbers.{numberOf, one-number}
+use mathlib.Core.Path.{_≡_, refl}
+use Rattle.refusal.specs.Numbers.{numberOf}
 use Rattle.refusal.specs.Answer.{Answer, value, refused}
+use Rattle.refusal.specs.Settled.{Made, byValue, byRefusal, settled}
 use Rattle.registers.specs.declared.BoolAnswer.{BoolAnswer}
 use Rattle.registers.specs.declared.BoolAnswer.the-variants as B
 use Rattle.registers.specs.declared.WordAnswer.{WordAnswer}
@@ -18,14 +19,16 @@ wordMeans (W.Is n) = value n
 wordMeans (W.Refused r) = refused (numberOf r)
 
 -- the meaning settles the answer
+made-bool : (a : BoolAnswer) → Made B.Is B.Refused a
+made-bool (B.Is x) = byValue x
+made-bool (B.Refused r) = byRefusal r
+
 pub one-bool : (a b : BoolAnswer) → boolMeans a ≡ boolMeans b → a ≡ b
-one-bool (B.Is x) (B.Is y) e = cc
-one-bool (B.Is x) (B.Refused r) e = cc
-one-bool (B.Refused r) (B.Is y) e = cc
-one-bool (B.Refused r) (B.Refused s) e = ap B.Refused (one-number r s (cc))
+one-bool a b = settled B.Is B.Refused boolMeans (λ x. refl) (λ r. refl) (made-bool a) (made-bool b)
+
+made-word : (a : WordAnswer) → Made W.Is W.Refused a
+made-word (W.Is x) = byValue x
+made-word (W.Refused r) = byRefusal r
 
 pub one-word : (a b : WordAnswer) → wordMeans a ≡ wordMeans b → a ≡ b
-one-word (W.Is x) (W.Is y) e = cc
-one-word (W.Is x) (W.Refused r) e = cc
-one-word (W.Refused r) (W.Is y) e = cc
-one-word (W.Refused r) (W.Refused s) e = ap W.Refused (one-number r s (cc))
+one-word a b = settled W.Is W.Refused wordMeans (λ x. refl) (λ r. refl) (made-word a) (made-word b)

@@ -1,0 +1,99 @@
+// The readers of a background.
+use crate::answers::bit;
+use crate::answers::print_offset;
+use crate::answers::scrolled;
+use crate::answers::size;
+use crate::answers::word;
+use crate::cleared;
+use crate::digits;
+use crate::line;
+use crate::scattered;
+use registers::PPURegisters;
+
+// Map address; character address; 1 if the map is wide, and 2 if it is tall; 1 if the tile side is
+// 16, and 2 if mosaic is on; mosaic block.
+fn show(r: PPURegisters, bg: usize) {
+    digits(word(bg_registers::bg_tilemap_addr(r, bg)), 4);
+    digits(word(bg_registers::bg_tiledata_addr(r, bg)), 4);
+    digits(size(bg_registers::bg_tilemap_size(r, bg)), 1);
+    digits(
+        bit(bg_registers::bg_tile16(r, bg)) + bit(mosaic::bg_mosaic(r, bg)) * 2,
+        1,
+    );
+    line(word(mosaic::bg_mosaic_block(r, bg)), 2);
+}
+
+pub fn backgrounds() {
+    for n in 0..1024 {
+        show(scattered((n / 4) as u8), n % 4);
+    }
+}
+
+// The offset, and the four backgrounds', in decimal.
+fn offsets(r: PPURegisters) {
+    print_offset(mosaic::mosaic_voffset(r));
+    for bg in 0..4 {
+        io::write_all(1, b" ");
+        print_offset(mosaic::bg_mosaic_voffset(r, bg));
+    }
+    io::write_all(1, b"\n");
+}
+
+// Every mosaic size, and for each the counters 0 to 16.
+pub fn counters() {
+    for n in 0..272u16 {
+        let mut r = cleared();
+        r.mosaic = (n / 17 * 16 + n % 16) as u8;
+        r.mosaic_vcounter = (n % 17) as u8;
+        offsets(r);
+    }
+}
+
+// The state after x of the generator that both sides draw from.
+fn next(x: u32) -> u32 {
+    ((x as u64 * 1664525 + 1013904223) % 4294967296) as u32
+}
+
+fn high(x: u32) -> u16 {
+    (x / 65536) as u16
+}
+
+// The generator's state, and registers whose scrolls were drawn from it.
+struct Drawn {
+    x: u32,
+    r: PPURegisters,
+}
+
+fn draw(x: u32) -> Drawn {
+    let mut r = cleared();
+    let a = next(x);
+    let b = next(a);
+    let c = next(b);
+    let d = next(c);
+    r.bg1hofs = high(a);
+    r.bghofs[0] = high(b);
+    r.bghofs[1] = high(c);
+    r.bghofs[2] = high(d);
+    let e = next(d);
+    let f = next(e);
+    let g = next(f);
+    let h = next(g);
+    r.bg1vofs = high(e);
+    r.bgvofs[0] = high(f);
+    r.bgvofs[1] = high(g);
+    r.bgvofs[2] = high(h);
+    Drawn { x: h, r }
+}
+
+pub fn scroll() {
+    let mut x: u32 = 4;
+    for _ in 0..48u32 {
+        let d = draw(x);
+        x = d.x;
+        let r = d.r;
+        line(scrolled(bg_registers::bg_scroll(r, 0)), 8);
+        line(scrolled(bg_registers::bg_scroll(r, 1)), 8);
+        line(scrolled(bg_registers::bg_scroll(r, 2)), 8);
+        line(scrolled(bg_registers::bg_scroll(r, 3)), 8);
+    }
+}
