@@ -9,7 +9,7 @@ use constants::LAYERS;
 use refusal::Refusal;
 ghost use mathlib.Core.Path.{_≡_};
 ghost use Rattle.registers.specs.Answers.{boolMeans};
-ghost use Rattle.registers.specs.Screen.{modeOf, directColour, blanked, brightnessOf, spriteInterlace, layerBit};
+ghost use Rattle.registers.specs.Screen.{cleared, modeOf, directColour, blanked, brightnessOf, spriteInterlace, layerBit};
 
 // The register values, in the scene file's order; then the mosaic counter (lines left in the
 // mosaic block) and the field (true in an odd frame), which document 01 takes as inputs.
@@ -69,6 +69,45 @@ fn layer_bit(value: u8, layer: usize) -> BoolAnswer
 }
 
 impl PPURegisters {
+    // Every register cleared, the counter stopped and the field even.
+    pub fn new() -> PPURegisters
+        ensures { λ r. ⌜ r ≡ cleared ⌝ }
+    {
+        PPURegisters {
+            inidisp: 0,
+            objsel: 0,
+            oamadd: 0,
+            bgmode: 0,
+            mosaic: 0,
+            bgsc: [0; 4],
+            bg12nba: 0,
+            bg34nba: 0,
+            bg1hofs: 0,
+            bghofs: [0; 3],
+            bg1vofs: 0,
+            bgvofs: [0; 3],
+            w12sel: 0,
+            w34sel: 0,
+            wobjsel: 0,
+            wh0: 0,
+            wh1: 0,
+            wh2: 0,
+            wh3: 0,
+            wbglog: 0,
+            wobjlog: 0,
+            tm: 0,
+            ts: 0,
+            tmw: 0,
+            tsw: 0,
+            cgwsel: 0,
+            cgadsub: 0,
+            coldata: 0,
+            setini: 0,
+            mosaic_vcounter: 0,
+            field: false,
+        }
+    }
+
     // The background mode, 0 to 7.
     pub fn bg_mode(self) -> u8
         ensures { λ r. ⌜ r ≡ modeOf self ⌝ }

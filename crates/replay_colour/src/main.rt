@@ -1,15 +1,12 @@
 // Replays the oracle's list `colour`: the same inputs in the same order, a line for each.
 use colour::RgbAnswer;
+use generator::next;
+use generator::word;
 
 // A line of hexadecimal digits.
 fn line(v: u64, digits: usize) {
     io::print_hex(1, v, digits);
     io::write_all(1, b"\n");
-}
-
-// The state after x of the generator that both sides draw from.
-fn next(x: u32) -> u32 {
-    ((x as u64 * 1664525 + 1013904223) % 4294967296) as u32
 }
 
 // The three bytes as one number. A refusal writes a word that no list has.
@@ -81,9 +78,9 @@ fn random() {
     let mut x: u32 = 1;
     for _ in 0..2000u32 {
         x = next(x);
-        let main = (x / 65536) as u16;
+        let main = word(x);
         x = next(x);
-        let sub = (x / 65536) as u16;
+        let sub = word(x);
         io::print_hex(1, main as u64 * 65536 + sub as u64, 8);
         io::write_all(1, b" ");
         line(four(main, sub), 16);

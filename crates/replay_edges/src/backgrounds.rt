@@ -3,7 +3,7 @@ use crate::LARGEST;
 use crate::say;
 use registers::PPURegisters;
 
-pub fn readers(r: PPURegisters, bg: usize) {
+pub(crate) fn readers(r: PPURegisters, bg: usize) {
     say::number(b"map address of background ", bg);
     say::word(bg_registers::bg_tilemap_addr(r, bg));
     say::number(b"character address of background ", bg);
@@ -26,7 +26,7 @@ fn mask(r: PPURegisters, bg: usize, x: usize) {
     say::yes_or_no(windows::bg_window_masked(r, bg, x));
 }
 
-pub fn masks(r: PPURegisters) {
+pub(crate) fn masks(r: PPURegisters) {
     mask(r, 3, 199);
     mask(r, 3, 200);
     mask(r, 3, 255);
@@ -53,7 +53,7 @@ fn own_counter(registers: PPURegisters, bg: usize, n: u8) {
     say::offset(mosaic::bg_mosaic_voffset(r, bg));
 }
 
-pub fn counters(r: PPURegisters) {
+pub(crate) fn counters(r: PPURegisters) {
     counter(r, 1);
     counter(r, 5);
     counter(r, 16);

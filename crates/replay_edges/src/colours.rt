@@ -25,7 +25,7 @@ fn red(text: &[u8], main: u16, sub: u16, subtract: bool, half: bool) {
     say::words(b"\n");
 }
 
-pub fn colours() {
+pub(crate) fn colours() {
     bright(0);
     bright(7);
     bright(15);

@@ -42,14 +42,14 @@ fn places(vram: &[u16]) {
     decode(vram, LARGEST, LARGEST, LARGEST);
 }
 
-pub fn sizes() {
+pub(crate) fn sizes() {
     say::number(b"words of a 2bpp tile: ", BitDepth::Two.tile_words());
     say::number(b"\nwords of a 4bpp tile: ", BitDepth::Four.tile_words());
     say::number(b"\nwords of an 8bpp tile: ", BitDepth::Eight.tile_words());
     say::words(b"\n");
 }
 
-pub fn pixels() {
+pub(crate) fn pixels() {
     let words = [65535u16; 32769];
     places(&words[..32768]);
     decode(&words[..32767], 65535, 7, 7);

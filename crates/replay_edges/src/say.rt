@@ -6,22 +6,22 @@ use refusal::Refusal;
 use registers::BoolAnswer;
 use registers::WordAnswer;
 
-pub fn words(text: &[u8]) {
+pub(crate) fn words(text: &[u8]) {
     io::write_all(1, text);
 }
 
 // Words and a number.
-pub fn number(text: &[u8], n: usize) {
+pub(crate) fn number(text: &[u8], n: usize) {
     words(text);
     io::print_decimal(1, n as u64);
 }
 
-pub fn refused(r: Refusal) {
+pub(crate) fn refused(r: Refusal) {
     number(b": refused ", r.number() as usize);
     words(b"\n");
 }
 
-pub fn yes_or_no(answer: BoolAnswer) {
+pub(crate) fn yes_or_no(answer: BoolAnswer) {
     match answer {
         BoolAnswer::Is(b) => {
             if b {
@@ -34,7 +34,7 @@ pub fn yes_or_no(answer: BoolAnswer) {
     }
 }
 
-pub fn word(answer: WordAnswer) {
+pub(crate) fn word(answer: WordAnswer) {
     match answer {
         WordAnswer::Is(n) => {
             number(b": ", n as usize);
@@ -48,7 +48,7 @@ fn side(is64: bool) -> usize {
     if is64 { 64 } else { 32 }
 }
 
-pub fn size(answer: SizeAnswer) {
+pub(crate) fn size(answer: SizeAnswer) {
     match answer {
         SizeAnswer::Is(s) => {
             number(b": ", side(s.w64));
@@ -59,7 +59,7 @@ pub fn size(answer: SizeAnswer) {
     }
 }
 
-pub fn scroll(answer: ScrollAnswer) {
+pub(crate) fn scroll(answer: ScrollAnswer) {
     match answer {
         ScrollAnswer::Is(s) => {
             number(b": ", s.x as usize);
@@ -71,7 +71,7 @@ pub fn scroll(answer: ScrollAnswer) {
 }
 
 // The offsets that the cases come to have a name, and no other has.
-pub fn offset(answer: OffsetAnswer) {
+pub(crate) fn offset(answer: OffsetAnswer) {
     match answer {
         OffsetAnswer::Is(z) => {
             match z {

@@ -2,7 +2,7 @@
 use crate::say;
 use registers::PPURegisters;
 
-pub fn layers(r: PPURegisters, layer: usize) {
+pub(crate) fn layers(r: PPURegisters, layer: usize) {
     say::number(b"layer ", layer);
     say::words(b" of tm");
     say::yes_or_no(r.to_main(layer));
@@ -17,7 +17,7 @@ pub fn layers(r: PPURegisters, layer: usize) {
     say::yes_or_no(r.win_sub(layer));
 }
 
-pub fn windows(r: PPURegisters, x: usize) {
+pub(crate) fn windows(r: PPURegisters, x: usize) {
     say::number(b"window 1, column ", x);
     say::yes_or_no(windows::in_window1(r, x));
     say::number(b"window 2, column ", x);

@@ -19,7 +19,7 @@ fn one(b: bool) -> u64
     if b { 1 } else { 0 }
 }
 
-pub fn bit(answer: BoolAnswer) -> u64
+pub(crate) fn bit(answer: BoolAnswer) -> u64
     ensures { λ r. ⌜ r < 2 ⌝ }
 {
     match answer {
@@ -28,7 +28,7 @@ pub fn bit(answer: BoolAnswer) -> u64
     }
 }
 
-pub fn word(answer: WordAnswer) -> u64 {
+pub(crate) fn word(answer: WordAnswer) -> u64 {
     match answer {
         WordAnswer::Is(n) => n as u64,
         WordAnswer::Refused(_) => refused(),
@@ -36,7 +36,7 @@ pub fn word(answer: WordAnswer) -> u64 {
 }
 
 // 1 if the map is wide, and 2 if it is tall.
-pub fn size(answer: SizeAnswer) -> u64 {
+pub(crate) fn size(answer: SizeAnswer) -> u64 {
     match answer {
         SizeAnswer::Is(s) => one(s.w64) + one(s.h64) * 2,
         SizeAnswer::Refused(_) => refused(),
@@ -44,7 +44,7 @@ pub fn size(answer: SizeAnswer) -> u64 {
 }
 
 // Horizontal, then vertical.
-pub fn scrolled(answer: ScrollAnswer) -> u64 {
+pub(crate) fn scrolled(answer: ScrollAnswer) -> u64 {
     match answer {
         ScrollAnswer::Is(s) => s.x as u64 * 65536 + s.y as u64,
         ScrollAnswer::Refused(_) => refused(),
@@ -76,7 +76,7 @@ fn distance(z: i16) -> u64 {
 }
 
 // Writes an offset in decimal.
-pub fn print_offset(answer: OffsetAnswer) {
+pub(crate) fn print_offset(answer: OffsetAnswer) {
     match answer {
         OffsetAnswer::Is(z) => {
             if z < 0 {

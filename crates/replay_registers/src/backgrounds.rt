@@ -4,10 +4,10 @@ use crate::answers::print_offset;
 use crate::answers::scrolled;
 use crate::answers::size;
 use crate::answers::word;
-use crate::cleared;
 use crate::digits;
 use crate::line;
 use crate::scattered;
+use generator::next;
 use registers::PPURegisters;
 
 // Map address; character address; 1 if the map is wide, and 2 if it is tall; 1 if the tile side is
@@ -23,7 +23,7 @@ fn show(r: PPURegisters, bg: usize) {
     line(word(mosaic::bg_mosaic_block(r, bg)), 2);
 }
 
-pub fn backgrounds() {
+pub(crate) fn backgrounds() {
     for n in 0..1024 {
         show(scattered((n / 4) as u8), n % 4);
     }
@@ -40,22 +40,13 @@ fn offsets(r: PPURegisters) {
 }
 
 // Every mosaic size, and for each the counters 0 to 16.
-pub fn counters() {
+pub(crate) fn counters() {
     for n in 0..272u16 {
-        let mut r = cleared();
+        let mut r = PPURegisters::new();
         r.mosaic = (n / 17 * 16 + n % 16) as u8;
         r.mosaic_vcounter = (n % 17) as u8;
         offsets(r);
     }
-}
-
-// The state after x of the generator that both sides draw from.
-fn next(x: u32) -> u32 {
-    ((x as u64 * 1664525 + 1013904223) % 4294967296) as u32
-}
-
-fn high(x: u32) -> u16 {
-    (x / 65536) as u16
 }
 
 // The generator's state, and registers whose scrolls were drawn from it.
@@ -65,27 +56,27 @@ struct Drawn {
 }
 
 fn draw(x: u32) -> Drawn {
-    let mut r = cleared();
+    let mut r = PPURegisters::new();
     let a = next(x);
     let b = next(a);
     let c = next(b);
     let d = next(c);
-    r.bg1hofs = high(a);
-    r.bghofs[0] = high(b);
-    r.bghofs[1] = high(c);
-    r.bghofs[2] = high(d);
+    r.bg1hofs = generator::word(a);
+    r.bghofs[0] = generator::word(b);
+    r.bghofs[1] = generator::word(c);
+    r.bghofs[2] = generator::word(d);
     let e = next(d);
     let f = next(e);
     let g = next(f);
     let h = next(g);
-    r.bg1vofs = high(e);
-    r.bgvofs[0] = high(f);
-    r.bgvofs[1] = high(g);
-    r.bgvofs[2] = high(h);
+    r.bg1vofs = generator::word(e);
+    r.bgvofs[0] = generator::word(f);
+    r.bgvofs[1] = generator::word(g);
+    r.bgvofs[2] = generator::word(h);
     Drawn { x: h, r }
 }
 
-pub fn scroll() {
+pub(crate) fn scroll() {
     let mut x: u32 = 4;
     for _ in 0..48u32 {
         let d = draw(x);

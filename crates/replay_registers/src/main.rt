@@ -17,42 +17,6 @@ fn line(v: u64, n: usize) {
     io::write_all(1, b"\n");
 }
 
-fn cleared() -> PPURegisters {
-    PPURegisters {
-        inidisp: 0,
-        objsel: 0,
-        oamadd: 0,
-        bgmode: 0,
-        mosaic: 0,
-        bgsc: [0; 4],
-        bg12nba: 0,
-        bg34nba: 0,
-        bg1hofs: 0,
-        bghofs: [0; 3],
-        bg1vofs: 0,
-        bgvofs: [0; 3],
-        w12sel: 0,
-        w34sel: 0,
-        wobjsel: 0,
-        wh0: 0,
-        wh1: 0,
-        wh2: 0,
-        wh3: 0,
-        wbglog: 0,
-        wobjlog: 0,
-        tm: 0,
-        ts: 0,
-        tmw: 0,
-        tsw: 0,
-        cgwsel: 0,
-        cgadsub: 0,
-        coldata: 0,
-        setini: 0,
-        mosaic_vcounter: 0,
-        field: false,
-    }
-}
-
 // The bits of v, each k places higher and round to the start.
 fn turned(v: u8, k: u16) -> u8 {
     let wide = (v as u16) << (k % 8);
@@ -61,7 +25,7 @@ fn turned(v: u8, k: u16) -> u8 {
 
 // Registers that are each another turn of v's bits, or the opposite of one.
 fn scattered(v: u8) -> PPURegisters {
-    let mut r = cleared();
+    let mut r = PPURegisters::new();
     r.inidisp = v;
     r.bgmode = turned(v, 1);
     r.mosaic = turned(v, 2);

@@ -1,6 +1,5 @@
 // The windows at ten layouts of their edges.
 use crate::answers::bit;
-use crate::cleared;
 use crate::digits;
 use crate::line;
 use registers::PPURegisters;
@@ -69,7 +68,7 @@ fn logic(fill: u8, first: usize, which: usize, by: u8) -> u8 {
 // The registers of a layout, in which one window (BG1 to BG4, sprites, colour: 0 to 5) has these
 // four bits and this logic. Every other window's bits are the fill's.
 fn window(l: Layout, which: usize, bits: u8, by: u8) -> PPURegisters {
-    let mut r = cleared();
+    let mut r = PPURegisters::new();
     r.wh0 = l.wh0;
     r.wh1 = l.wh1;
     r.wh2 = l.wh2;
@@ -137,7 +136,7 @@ fn show(l: Layout) {
     }
 }
 
-pub fn masks() {
+pub(crate) fn masks() {
     for n in 0..10 {
         show(layout_of(n));
     }

@@ -42,7 +42,7 @@ fn show(r: PPURegisters) {
     line(layers(r, 3), 2);
 }
 
-pub fn screen() {
+pub(crate) fn screen() {
     for v in 0..256u16 {
         show(scattered(v as u8));
     }

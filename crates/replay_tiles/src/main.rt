@@ -1,4 +1,6 @@
 // Replays the oracle's list `tiles`: the three decoders over a VRAM of random words.
+use generator::next;
+use generator::word;
 use tiles::IndexAnswer;
 ghost use Prim.Native.Nat.{_<_};
 
@@ -6,11 +8,6 @@ ghost use Prim.Native.Nat.{_<_};
 fn line(v: u64, digits: usize) {
     io::print_hex(1, v, digits);
     io::write_all(1, b"\n");
-}
-
-// The state after x of the generator that both sides draw from.
-fn next(x: u32) -> u32 {
-    ((x as u64 * 1664525 + 1013904223) % 4294967296) as u32
 }
 
 // The colour index. A refusal writes a word that no list has.
@@ -30,7 +27,7 @@ fn fill(vram: &mut [u16]) {
     let mut x: u32 = 2;
     for i in 0..vram.len() {
         x = next(x);
-        vram[i] = (x / 65536) as u16;
+        vram[i] = word(x);
     }
 }
 
@@ -92,11 +89,11 @@ fn random(vram: &[u16]) {
     let mut state: u32 = 3;
     for _ in 0..4000u32 {
         state = next(state);
-        let base = (state / 65536) as usize;
+        let base = word(state) as usize;
         state = next(state);
-        let x = (state / 65536 % 8) as usize;
+        let x = (word(state) % 8) as usize;
         state = next(state);
-        pixel(vram, base, x, (state / 65536 % 8) as usize);
+        pixel(vram, base, x, (word(state) % 8) as usize);
     }
 }
 

@@ -1,0 +1,128 @@
+//! The list `outside`: what the Rust does outside document 01's domain, a line for each case.
+//!
+//! It depends on the build: a debug build stops at a sum that overflows, a release build goes on.
+
+use rust_ppu::oam::OAM;
+use rust_ppu::ppu::PPU;
+use rust_ppu::rendering::renderer::Renderer;
+use rust_ppu::vram::VRAM;
+use std::fmt::Debug;
+use std::panic::{self, AssertUnwindSafe};
+
+/// A case's line: the answer, or that the Rust panics.
+fn line<T: Debug>(case: &str, run: impl FnOnce() -> T) -> String {
+    match panic::catch_unwind(AssertUnwindSafe(run)) {
+        Ok(answer) => format!("{case}: answer {answer:?}\n"),
+        Err(_) => format!("{case}: panic\n"),
+    }
+}
+
+pub fn list() -> String {
+    panic::set_hook(Box::new(|_| ()));
+    rows() + &backgrounds() + &windows() + &sprites() + &tiles() + &rest()
+}
+
+fn rows() -> String {
+    let mut out = String::new();
+    for (case, inidisp) in [
+        ("render_scanline row 224", 15),
+        ("render_scanline row 224, forced blank", 0x80),
+    ] {
+        let mut ppu = PPU::new();
+        ppu.regs.inidisp = inidisp;
+        out += &line(case, || Renderer::new().render_scanline(&ppu, 224));
+    }
+    out
+}
+
+/// Each byte is another, so that an answer tells which one it was read from.
+fn backgrounds() -> String {
+    let mut ppu = PPU::new();
+    ppu.regs.bgsc = [0x04, 0x08, 0x0d, 0x13];
+    ppu.regs.bg12nba = 0x21;
+    ppu.regs.bg34nba = 0x43;
+    ppu.regs.bghofs = [2, 3, 4];
+    ppu.regs.bgvofs = [6, 7, 8];
+    ppu.regs.bgmode = 0xff;
+    ppu.regs.mosaic = 0x1f;
+    let mut out = line("bg_tilemap_addr background 4", || {
+        ppu.regs.bg_tilemap_addr(4)
+    });
+    out += &line("bg_tiledata_addr background 4", || {
+        ppu.regs.bg_tiledata_addr(4)
+    });
+    out += &line("bg_tilemap_size background 4", || {
+        ppu.regs.bg_tilemap_size(4)
+    });
+    out += &line("bg_scroll background 4", || ppu.regs.bg_scroll(4));
+    out += &line("bg_tile16 background 4", || ppu.regs.bg_tile16(4));
+    out += &line("bg_tile16 background 8", || ppu.regs.bg_tile16(8));
+    out += &line("bg_mosaic background 4", || ppu.regs.bg_mosaic(4));
+    out += &line("bg_mosaic background 5", || ppu.regs.bg_mosaic(5));
+    out += &line("bg_mosaic background 8", || ppu.regs.bg_mosaic(8));
+    out
+}
+
+fn windows() -> String {
+    let mut ppu = PPU::new();
+    ppu.regs.wh1 = 255;
+    ppu.regs.w34sel = 0x02;
+    let mut out = line("bg_window_masked background 4, column 0", || {
+        ppu.regs.bg_window_masked(4, 0)
+    });
+    out += &line("in_window1 column 255, edges 0 and 255", || {
+        ppu.regs.in_window1(255)
+    });
+    out += &line("in_window1 column 256, edges 0 and 255", || {
+        ppu.regs.in_window1(256)
+    });
+    ppu.regs.w12sel = 0x03;
+    out += &line(
+        "bg_window_masked background 0, column 256, inverted",
+        || ppu.regs.bg_window_masked(0, 256),
+    );
+    out
+}
+
+fn sprites() -> String {
+    line("get_sprite sprite 128", || OAM::new().get_sprite(128, 0))
+}
+
+/// Row 0 of the tile at word 0, leftmost pixel: the plane pairs hold 1, 3, 2, 1. What follows is blank.
+/// Its rightmost pixel is 2 in the first pair and 0 in the others.
+fn tiles() -> String {
+    let mut vram = VRAM::new();
+    vram.memory[0] = 0x0180;
+    vram.memory[8] = 0x8080;
+    vram.memory[16] = 0x8000;
+    vram.memory[24] = 0x0080;
+    let v = &vram.memory;
+    let mut out = String::new();
+    for (case, base, x, y) in [
+        ("tile pixel 0, 0", 0, 0, 0),
+        ("tile pixel 8, 0", 0, 8, 0),
+        ("tile pixel 0, 8", 0, 0, 8),
+        ("tile word 65,536", 65536, 0, 0),
+    ] {
+        out += &line(&format!("decode_2bpp {case}"), || {
+            Renderer::decode_2bpp_tile_pixel_from(v, base, x, y)
+        });
+        out += &line(&format!("decode_4bpp {case}"), || {
+            Renderer::decode_4bpp_tile_pixel_from(v, base, x, y)
+        });
+        out += &line(&format!("decode_8bpp {case}"), || {
+            Renderer::decode_8bpp_tile_pixel_from(v, base, x, y)
+        });
+    }
+    out
+}
+
+fn rest() -> String {
+    let mut ppu = PPU::new();
+    ppu.mosaic_vcounter = 17;
+    let mut out = line("apply_brightness 0x7fff, brightness 16", || {
+        Renderer::apply_brightness(0x7fff, 16)
+    });
+    out += &line("mosaic_voffset size 1, counter 17", || ppu.mosaic_voffset());
+    out
+}
