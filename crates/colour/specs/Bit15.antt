@@ -24,6 +24,7 @@ module _ (c d : ℕ) (e : SameColour c d) where
 
 -- brightness does not see it
 pub brightness-blind : (c d b : ℕ) → SameColour c d → brightnessOf c b ≡ brightnessOf d b
+unfolding brightnessOf
 brightness-blind c d b e =
     λ i. record {
       red = light (same-red c d e i) b;
@@ -34,6 +35,7 @@ brightness-blind c d b e =
 -- colour math does not see it, on either side
 pub math-blind : (m n s t : ℕ) (subtract half : Bool) → SameColour m n → SameColour s t →
     mathOf m s subtract half ≡ mathOf n t subtract half
+unfolding mathOf
 math-blind m n s t subtract half e f =
     λ i.
     wordOf
@@ -53,6 +55,7 @@ word-small r g b p q h = omega arith
 
 -- colour math never sets it
 pub math-clear : (m s : ℕ) (subtract half : Bool) → mathOf m s subtract half < 32768
+unfolding mathOf
 math-clear m s subtract half =
     word-small _ _ _
     (channel-small (redOf m) (redOf s) subtract half (omega arith) (omega arith))
@@ -61,4 +64,5 @@ math-clear m s subtract half =
 
 -- nor does direct colour
 pub direct-clear : (i p : ℕ) → directColour i p < 32768
+unfolding directColour
 direct-clear i p = omega arith

@@ -18,7 +18,7 @@ blueOf c = c / 1024 % 32
 abbrev pub wordOf : ℕ → ℕ → ℕ → ℕ
 wordOf r g b = r + g * 32 + b * 1024
 
-abbrev pub directColour : ℕ → ℕ → ℕ
+unfoldable pub directColour : ℕ → ℕ → ℕ
 directColour i p =
     wordOf
     (4 * (i % 8) + 2 * (p % 2))
@@ -38,7 +38,7 @@ halved c false = c
 abbrev pub channelOf : ℕ → ℕ → Bool → Bool → ℕ
 channelOf m s subtract half = halved (mixed m s subtract) half
 
-abbrev pub mathOf : ℕ → ℕ → Bool → Bool → ℕ
+unfoldable pub mathOf : ℕ → ℕ → Bool → Bool → ℕ
 mathOf m s subtract half =
     wordOf
     (channelOf (redOf m) (redOf s) subtract half)
@@ -50,10 +50,10 @@ abbrev pub scaled : ℕ → ℕ → ℕ
 scaled c b = c * (b + 1) / 16
 
 -- brightness 0 is black; else 8c + c/4 of the scaled channel
-abbrev pub light : ℕ → ℕ → ℕ
+unfoldable pub light : ℕ → ℕ → ℕ
 light c b = cond (eqb b 0) 0 (scaled c b * 8 + scaled c b / 4)
 
-abbrev pub brightnessOf : ℕ → ℕ → Rgb
+unfoldable pub brightnessOf : ℕ → ℕ → Rgb
 brightnessOf c b = record { red = light (redOf c) b; green = light (greenOf c) b; blue = light (blueOf c) b }
 
 -- a brightness above 15 is refused 7

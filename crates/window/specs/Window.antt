@@ -23,7 +23,7 @@ combined false true logic a b = b
 combined true true logic a b = logicOf logic a b
 
 -- inversion comes first
-abbrev pub masked : Window → ℕ → Bool
+unfoldable pub masked : Window → ℕ → Bool
 masked w x =
     combined (w .enable1) (w .enable2) (w .logic)
     (xor (inside (w .left1) (w .right1) x) (w .invert1))

@@ -8,7 +8,7 @@ use Rattle.registers.specs.Bits.{bitOf, nibbleOf}
 use Rattle.window.specs.declared.Window.{Window}
 
 -- the four bits, lowest first: invert 1, enable 1, invert 2, enable 2
-abbrev pub windowOf : PPURegisters → ℕ → ℕ → Window
+unfoldable pub windowOf : PPURegisters → ℕ → ℕ → Window
 windowOf r sel logic = record {
   left1 = r .wh0;
   right1 = r .wh1;

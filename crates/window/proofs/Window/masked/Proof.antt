@@ -1,8 +1,10 @@
+use Rattle.window.specs.Window.{masked}
 use borrow.Author.Needs.{needs}
 use Rattle.window.proofs.Window.masked.Statement.{statement}
 use Rattle.window.proofs.Window.masked.Tie as tie
 
 returns : tie.Need-returns
+unfolding masked
 returns c = cc
 
 pub masked-spec : {M : Type 1} → statement M

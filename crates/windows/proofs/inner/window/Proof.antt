@@ -1,8 +1,10 @@
+use Rattle.windows.specs.Windows.{windowOf}
 use borrow.Author.Needs.{needs}
 use Rattle.windows.proofs.inner.window.Statement.{statement}
 use Rattle.windows.proofs.inner.window.Tie as tie
 
 returns : tie.Need-returns
+unfolding windowOf
 returns c = cc
 
 pub window-spec : {M : Type 1} → statement M
