@@ -59,17 +59,31 @@ fn backgrounds() -> String {
     out += &line("bg_tile16 background 8", || ppu.regs.bg_tile16(8));
     out += &line("bg_mosaic background 4", || ppu.regs.bg_mosaic(4));
     out += &line("bg_mosaic background 5", || ppu.regs.bg_mosaic(5));
-    out += &line("bg_mosaic background 8", || ppu.regs.bg_mosaic(8));
+    ppu.regs.mosaic = 0x01;
+    out += &line("bg_mosaic background 8, mosaic of BG1 alone", || {
+        ppu.regs.bg_mosaic(8)
+    });
+    ppu.regs.mosaic = 0xfe;
+    out += &line("bg_mosaic background 8, mosaic of all but BG1", || {
+        ppu.regs.bg_mosaic(8)
+    });
     out
 }
 
 fn windows() -> String {
     let mut ppu = PPU::new();
     ppu.regs.wh1 = 255;
-    ppu.regs.w34sel = 0x02;
-    let mut out = line("bg_window_masked background 4, column 0", || {
-        ppu.regs.bg_window_masked(4, 0)
-    });
+    // BG3 alone has its windows enabled. Window 1 holds column 0, window 2 does not.
+    ppu.regs.w34sel = 0x0a;
+    (ppu.regs.wh2, ppu.regs.wh3) = (1, 1);
+    let mut out = String::new();
+    for (case, wbglog) in [("OR of BG1 alone", 0x54), ("AND of BG1 alone", 0x01)] {
+        ppu.regs.wbglog = wbglog;
+        out += &line(
+            &format!("bg_window_masked background 4, column 0, {case}"),
+            || ppu.regs.bg_window_masked(4, 0),
+        );
+    }
     out += &line("in_window1 column 255, edges 0 and 255", || {
         ppu.regs.in_window1(255)
     });

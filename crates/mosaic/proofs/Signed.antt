@@ -1,6 +1,7 @@
--- The difference of two unsigned numbers as the machine has it, once over the width.
+-- Signed numbers as the machine has them, once over the width: a result read back, and the difference of two unsigned
+-- numbers.
 use Prim.Native.Nat.{ℕ, zero, suc, _-_, _^_, _<_}
-use mathlib.Core.Path.{_≡_, refl}
+use mathlib.Core.Path.{_≡_, _∙_}
 use mathlib.Core.Bool.{Bool, true, false, cond}
 use native.Mathlib.Omega.{arith}
 use lib.Dec.{ltb}
@@ -14,7 +15,11 @@ pick-small : (t : Bool) (x y : ℤ) (k : ℕ) → mag x < k → mag y < k → ma
 pick-small true x y k p q = p
 pick-small false x y k p q = q
 
--- it is no further from zero than the two are
+-- what a call's signed result is, read back from its bits
+pub read-back : (w : Width) {z y : ℤ} → mag z < 2 ^ hbits w → z ≡ y → toZ w (ofZ w z) ≡ y
+read-back w {z} small e = toZ-ofZ w z (record { sfits = small }) ∙ e
+
+-- a difference is no further from zero than the two are
 pub difference-small : (a b k : ℕ) → a < k → b < k → mag (pos a -ℤ pos b) < k
 difference-small a zero k p q = omega arith
 difference-small a (suc b) k p q =

@@ -1,6 +1,6 @@
 -- An answer enum is its values and its refusals, and its meaning settles it: one law for every answer enum.
 use Prim.Native.Nat.{ℕ}
-use mathlib.Core.Path.{_≡_, refl, sym, ap, _∙_}
+use mathlib.Core.Path.{_≡_, sym, ap, _∙_}
 use native.Mathlib.Omega.{arith}
 use Rattle.refusal.specs.Answer.{Answer, value, refused}
 use Rattle.refusal.specs.Numbers.{numberOf, one-number}

@@ -1,6 +1,5 @@
 -- The windows of the registers.
 use Prim.Native.Nat.{ℕ, _*_, _/_, _%_, _^_}
-use mathlib.Core.Bool.{Bool}
 use lib.Dec.{ltb}
 use Rattle.refusal.specs.Answer.{Answer, provided}
 use Rattle.registers.specs.declared.PPURegisters.{PPURegisters}

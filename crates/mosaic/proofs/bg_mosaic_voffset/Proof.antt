@@ -1,8 +1,7 @@
 use borrow.Author.Tests.{lt-ltb, le-ltb, le-leb, lt-leb}
 use Rattle.refusal.specs.Answer.{value}
 use mathlib.Core.Path.{ap}
-use mathlib.Core.Path.{sym, _∙_}
-use mir.ValLaws.{toZ-ofZ}
+use Rattle.mosaic.proofs.Signed.{read-back}
 use mir.Syntax.{w16}
 use borrow.Author.Needs.{needs}
 use Rattle.mosaic.proofs.bg_mosaic_voffset.Statement.{statement}
@@ -12,7 +11,7 @@ returns : tie.Need-returns
 returns c = simp (lt-leb _ _ (c .if1 .taken))
 
 returns-2 : tie.Need-returns-2
-returns-2 c = simp (le-leb _ _ (c .before .before .if1 .left), lt-ltb _ _ (c .before .if2 .taken)) (ap value (toZ-ofZ w16 (c .bg-mosaic-voffset .result) (record { sfits = c .bg-mosaic-voffset .ok }) ∙ c .bg-mosaic-voffset .ensures))
+returns-2 c = simp (le-leb _ _ (c .before .before .if1 .left), lt-ltb _ _ (c .before .if2 .taken)) (ap value (read-back w16 (c .bg-mosaic-voffset .ok) (c .bg-mosaic-voffset .ensures)))
 
 returns-3 : tie.Need-returns-3
 returns-3 c = simp (le-leb _ _ (c .before .if1 .left), le-ltb _ _ (c .if2 .left))

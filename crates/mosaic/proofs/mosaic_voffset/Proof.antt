@@ -1,7 +1,6 @@
 use Rattle.refusal.specs.Answer.{value}
 use mathlib.Core.Path.{ap}
-use mathlib.Core.Path.{sym, _∙_}
-use mir.ValLaws.{toZ-ofZ}
+use Rattle.mosaic.proofs.Signed.{read-back}
 use mir.Syntax.{w16}
 use borrow.Author.Tests.{le-leb, lt-leb}
 use borrow.Author.Needs.{needs}
@@ -9,7 +8,7 @@ use Rattle.mosaic.proofs.mosaic_voffset.Statement.{statement}
 use Rattle.mosaic.proofs.mosaic_voffset.Tie as tie
 
 returns : tie.Need-returns
-returns c = simp (le-leb _ _ (c .before .if1 .taken)) (ap value (toZ-ofZ w16 (c .mosaic-voffset .result) (record { sfits = c .mosaic-voffset .ok }) ∙ c .mosaic-voffset .ensures))
+returns c = simp (le-leb _ _ (c .before .if1 .taken)) (ap value (read-back w16 (c .mosaic-voffset .ok) (c .mosaic-voffset .ensures)))
 
 returns-2 : tie.Need-returns-2
 returns-2 c = simp (lt-leb _ _ (c .if1 .left))

@@ -1,6 +1,6 @@
 use mathlib.Core.Bool.{not}
 use mathlib.Core.Path.{ap}
-use borrow.Author.Tests.{eq-eqb, ne-eqb}
+use borrow.Author.Tests.{ne-eqb}
 use borrow.Author.Needs.{needs}
 use Rattle.window.proofs.by_logic.Statement.{statement}
 use Rattle.window.proofs.by_logic.Tie as tie

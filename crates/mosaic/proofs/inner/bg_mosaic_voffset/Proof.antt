@@ -1,12 +1,12 @@
 use mathlib.Core.Path.{sym, _∙_}
-use mir.ValLaws.{toZ-ofZ}
+use Rattle.mosaic.proofs.Signed.{read-back}
 use mir.Syntax.{w16}
 use borrow.Author.Needs.{needs}
 use Rattle.mosaic.proofs.inner.bg_mosaic_voffset.Statement.{statement}
 use Rattle.mosaic.proofs.inner.bg_mosaic_voffset.Tie as tie
 
 returns : tie.Need-returns
-returns c = rw (sym (c .before .before .bg-mosaic .ensures) ∙ c .before .if1 .taken) (toZ-ofZ w16 (c .mosaic-voffset .result) (record { sfits = c .mosaic-voffset .ok }) ∙ c .mosaic-voffset .ensures)
+returns c = rw (sym (c .before .before .bg-mosaic .ensures) ∙ c .before .if1 .taken) (read-back w16 (c .mosaic-voffset .ok) (c .mosaic-voffset .ensures))
 
 returns-2 : tie.Need-returns-2
 returns-2 c = rw (sym (c .before .bg-mosaic .ensures) ∙ c .if1 .left)
