@@ -17,3 +17,13 @@ infixr 20 _andThen_
 abbrev pub _andThen_ : {A : Type 0} → Answer Unit → Answer A → Answer A
 value _ andThen a = a
 refused n andThen a = refused n
+
+-- An answer and what stands beside it: state by value, lent memory, or a value that an enum cannot hold.
+pub record Outcome (A B : Type 0) : Type 0 where
+  pub said : Answer A
+  pub left : B
+
+-- what a call leaves whose tests say t: the answer a beside b, or the refusal beside what is kept
+abbrev pub outcome : {A B : Type 0} → Answer Unit → A → B → B → Outcome A B
+outcome (value _) a b kept = record { said = value a; left = b }
+outcome (refused n) a b kept = record { said = refused n; left = kept }

@@ -1,10 +1,13 @@
 -- An answer enum is its values and its refusals, and its meaning settles it: one law for every answer enum.
 use Prim.Native.Nat.{ℕ}
-use mathlib.Core.Path.{_≡_, sym, ap, _∙_}
+use mathlib.Core.Path.{_≡_, refl, sym, ap, _∙_}
 use native.Mathlib.Omega.{arith}
 use Rattle.refusal.specs.Answer.{Answer, value, refused}
 use Rattle.refusal.specs.Numbers.{numberOf, one-number}
+use Rattle.refusal.specs.Verdicts.{verdictMeans}
 use Rattle.refusal.specs.declared.Refusal.{Refusal}
+use Rattle.refusal.specs.declared.Verdict.{Verdict}
+use Rattle.refusal.specs.declared.Verdict.the-variants.{Fine, Refused}
 
 -- x is a value or a refusal
 pub data Made {A X : Type 0} (is : A → X) (no : Refusal → X) : X → Type 0 where
@@ -30,3 +33,12 @@ module _ {A X : Type 0} (is : A → X) (no : Refusal → X) (means : X → Answe
   settled (byRefusal r) (byValue a) e = absurd (apart (sym (is-means a) ∙ (sym e ∙ no-means r)))
   settled (byRefusal r) (byRefusal s) e =
       ap no (one-number r s (same-number (sym (no-means r) ∙ (e ∙ no-means s))))
+
+-- so for a verdict, which stands in an answer whose value is beside it
+made-verdict : (v : Verdict) → Made (λ (u : Unit {0}). Fine) Refused v
+made-verdict Fine = byValue tt
+made-verdict (Refused r) = byRefusal r
+
+pub one-verdict : (v w : Verdict) → verdictMeans v ≡ verdictMeans w → v ≡ w
+one-verdict v w =
+    settled (λ (u : Unit {0}). Fine) Refused verdictMeans (λ u. refl) (λ r. refl) (made-verdict v) (made-verdict w)

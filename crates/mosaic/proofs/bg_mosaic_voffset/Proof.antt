@@ -1,7 +1,7 @@
 use borrow.Author.Tests.{lt-ltb, le-ltb, le-leb, lt-leb}
 use Rattle.refusal.specs.Answer.{value}
 use mathlib.Core.Path.{ap}
-use Rattle.mosaic.proofs.Signed.{read-back}
+use Rattle.signed.proofs.Signed.{read-back}
 use mir.Syntax.{w16}
 use borrow.Author.Needs.{needs}
 use Rattle.mosaic.proofs.bg_mosaic_voffset.Statement.{statement}

@@ -1,6 +1,6 @@
 use Rattle.refusal.specs.Answer.{value}
 use mathlib.Core.Path.{ap}
-use Rattle.mosaic.proofs.Signed.{read-back}
+use Rattle.signed.proofs.Signed.{read-back}
 use mir.Syntax.{w16}
 use borrow.Author.Tests.{le-leb, lt-leb}
 use borrow.Author.Needs.{needs}

@@ -1,5 +1,5 @@
 use mathlib.Core.Path.{sym, _∙_}
-use Rattle.mosaic.proofs.Signed.{read-back}
+use Rattle.signed.proofs.Signed.{read-back}
 use mir.Syntax.{w16}
 use borrow.Author.Needs.{needs}
 use Rattle.mosaic.proofs.inner.bg_mosaic_voffset.Statement.{statement}

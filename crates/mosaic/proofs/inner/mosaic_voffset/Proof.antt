@@ -1,7 +1,7 @@
 use lib.IntN.{pos, _-ℤ_}
 use mathlib.Core.Path.{_∙_}
 use native.Mathlib.Omega.{arith}
-use Rattle.mosaic.proofs.Signed.{difference, difference-fits, difference-read}
+use Rattle.signed.proofs.Signed.{difference, difference-fits, difference-read}
 use mir.Syntax.{w16}
 use borrow.Author.Needs.{needs}
 use Rattle.mosaic.proofs.inner.mosaic_voffset.Statement.{statement}

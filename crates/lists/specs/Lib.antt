@@ -1,0 +1,3 @@
+pub mod Tab
+pub mod Keep
+pub mod Runs

@@ -1,0 +1,2 @@
+pub mod NineBits
+pub mod Sizes

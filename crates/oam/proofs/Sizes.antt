@@ -1,0 +1,60 @@
+-- A sprite is 8 to 64 wide and high: one computed test of the table, and a law that turns it into the bounds at each
+-- setting.
+use Prim.Native.Nat.{ℕ, zero, suc, _/_, _<_, _≤_}
+use mathlib.Core.Path.{_≡_}
+use mathlib.Core.Bool.{Bool, true, false, _&&_}
+use mathlib.Core.List.{List, [], _∷_}
+use native.Mathlib.Omega.{arith}
+use lib.Dec.{T, leb, leb→le}
+use lib.ListN.{length, getD}
+use Rattle.oam.specs.declared.SpriteSize.{SpriteSize}
+use Rattle.oam.specs.Sprites.{settings, square, sizesOf, sizeOf, Sized}
+
+abbrev fair : SpriteSize → Bool
+fair s = (leb 8 (s .width) && leb (s .width) 64) && (leb 8 (s .height) && leb (s .height) 64)
+
+abbrev all : List (SpriteSize × SpriteSize) → Bool
+all [] = true
+all (p ∷ l) = (fair (p .0) && fair (p .1)) && all l
+
+both : (a b : Bool) → T (a && b) → T a × T b
+both true b t = (tt, t)
+both false b t = absurd t
+
+is-fair : (s : SpriteSize) → T (fair s) → Sized s
+is-fair s t =
+    let p = both (leb 8 (s .width) && leb (s .width) 64) (leb 8 (s .height) && leb (s .height) 64) t in
+    let w = both (leb 8 (s .width)) (leb (s .width) 64) (p .0) in
+    let h = both (leb 8 (s .height)) (leb (s .height) 64) (p .1) in
+    record {
+      wide = leb→le 8 (s .width) (w .0);
+      narrow = leb→le (s .width) 64 (w .1);
+      high = leb→le 8 (s .height) (h .0);
+      low = leb→le (s .height) 64 (h .1);
+    }
+
+at : (l : List (SpriteSize × SpriteSize)) → T (all l) → (i : ℕ) → i < length l →
+    Sized (getD l i (square 0, square 0) .0) × Sized (getD l i (square 0, square 0) .1)
+at [] t i h = absurd (omega arith)
+at (p ∷ l) t zero h =
+    let f = both (fair (p .0)) (fair (p .1)) (both (fair (p .0) && fair (p .1)) (all l) t .0) in
+    (is-fair (p .0) (f .0), is-fair (p .1) (f .1))
+at (p ∷ l) t (suc i) h = at l (both (fair (p .0) && fair (p .1)) (all l) t .1) i (omega arith)
+
+pub size-fair : (objsel : ℕ) (large : Bool) → objsel < 256 → Sized (sizeOf objsel large)
+unfolding sizeOf sizesOf
+size-fair objsel true h = at settings tt (objsel / 32) (omega arith) .1
+size-fair objsel false h = at settings tt (objsel / 32) (omega arith) .0
+
+-- what is below 8 and none of 0 to 6 is the last setting
+up : (k n : ℕ) → k ≤ n → (n ≡ k → ⊥) → suc k ≤ n
+up k n h e = omega (arith, e)
+
+pub is-last : (n : ℕ) → n < 8 → (n ≡ 0 → ⊥) → (n ≡ 1 → ⊥) → (n ≡ 2 → ⊥) → (n ≡ 3 → ⊥) → (n ≡ 4 → ⊥) → (n ≡ 5 → ⊥) →
+    (n ≡ 6 → ⊥) → n ≡ 7
+is-last n h a b c d e f g =
+    let l : 7 ≤ n = up 6 n (up 5 n (up 4 n (up 3 n (up 2 n (up 1 n (up 0 n (omega arith) a) b) c) d) e) f) g in
+    below n h l
+  where
+    below : (n : ℕ) → n < 8 → 7 ≤ n → n ≡ 7
+    below n h l = omega arith

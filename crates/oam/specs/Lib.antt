@@ -1,0 +1,3 @@
+pub mod Sprites
+pub mod Answers
+pub mod Columns

@@ -1,0 +1,4 @@
+pub mod Port
+pub mod Answers
+pub mod Sequences
+pub mod Sound

@@ -1,0 +1,69 @@
+-- Calls one after another. Each does and says what the machine does and says, so that whoever makes a sequence of calls
+-- has before him a machine of one memory, one address and one latch.
+use Prim.Native.Nat.{ℕ}
+use mathlib.Core.Path.{_≡_, refl, ap, ap₂, _∙_}
+use mathlib.Core.List.{List, [], _∷_}
+use Rattle.refusal.specs.Answer.{Answer, Outcome}
+use Rattle.refusal.specs.Verdicts.{verdictMeans}
+use Rattle.lists.specs.Runs.{run, replies}
+use Rattle.oam_port.specs.declared.OamPort.{OamPort}
+use Rattle.oam_port.specs.declared.PortAnswer.{PortAnswer}
+use Rattle.oam_port.specs.declared.ReadAnswer.{ReadAnswer}
+use Rattle.oam_port.specs.Answers.{byteMeans, portMeans, readMeans}
+use Rattle.oam_port.specs.Port.{Machine, machine, addressed, wrote, readOut}
+
+-- what is asked of the port
+pub data Access : Type 0 where
+  addressWrite : ℕ → Access
+  dataWrite : ℕ → Access
+  dataRead : Access
+
+-- what it says
+pub data Reply : Type 0 where
+  written : Answer Unit → Reply
+  byte : Answer ℕ → Reply
+
+-- the machine after an access, and its reply
+abbrev pub step : Access → Machine → Machine
+step (addressWrite v) m = addressed v m .left
+step (dataWrite v) m = wrote v m .left
+step dataRead m = readOut m .left
+
+abbrev pub reply : Access → Machine → Reply
+reply (addressWrite v) m = written (addressed v m .said)
+reply (dataWrite v) m = written (wrote v m .said)
+reply dataRead m = byte (readOut m .said)
+
+-- a call that was made, between the memory and port that it was given and those that it left: all that is known of it is
+-- its contract
+pub data Called : Access → Machine → Reply → Machine → Type 0 where
+  wroteAddress : (p : OamPort) (v : ℕ) (oam : List ℕ) (r : PortAnswer) →
+      portMeans r oam ≡ addressed v (machine oam p) →
+      Called (addressWrite v) (machine oam p) (written (verdictMeans (r .verdict))) (machine oam (r .port))
+  wroteData : (p : OamPort) (v : ℕ) (entry exit : List ℕ) (r : PortAnswer) →
+      portMeans r exit ≡ wrote v (machine entry p) →
+      Called (dataWrite v) (machine entry p) (written (verdictMeans (r .verdict))) (machine exit (r .port))
+  readData : (p : OamPort) (oam : List ℕ) (r : ReadAnswer) →
+      readMeans r oam ≡ readOut (machine oam p) →
+      Called dataRead (machine oam p) (byte (byteMeans (r .byte))) (machine oam (r .port))
+
+-- calls made one after another, each on what the one before left
+pub data Calls : List Access → Machine → List Reply → Machine → Type 0 where
+  noCall : (m : Machine) → Calls [] m [] m
+  thenCalls : (a : Access) (l : List Access) (m n o : Machine) (r : Reply) (rs : List Reply) →
+      Called a m r n → Calls l n rs o → Calls (a ∷ l) m (r ∷ rs) o
+
+one-call : (a : Access) (m n : Machine) (r : Reply) → Called a m r n → (n ≡ step a m) × (r ≡ reply a m)
+one-call a m n r (wroteAddress p v oam b e) = (λ i. e i .left, λ i. written (e i .said))
+one-call a m n r (wroteData p v entry exit b e) = (λ i. e i .left, λ i. written (e i .said))
+one-call a m n r (readData p oam b e) = (λ i. e i .left, λ i. byte (e i .said))
+
+-- every sequence of calls ends where the machine's run ends, and heard what the machine says
+pub one-machine : (l : List Access) (m n : Machine) (rs : List Reply) → Calls l m rs n →
+    (n ≡ run step l m) × (rs ≡ replies step reply l m)
+unfolding run replies
+one-machine l m n rs (noCall k) = (refl, refl)
+one-machine l m n rs (thenCalls a t k j o r s c d) =
+    let e = one-call a k j r c in
+    let f = one-machine t j o s d in
+    (f .0 ∙ ap (run step t) (e .0), ap₂ (λ (x : Reply) (y : List Reply). x ∷ y) (e .1) (f .1 ∙ ap (replies step reply t) (e .0)))
