@@ -1,2 +1,2 @@
 pub mod NineBits
-pub mod Sizes
+pub mod Fair

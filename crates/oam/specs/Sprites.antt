@@ -8,6 +8,7 @@ use lib.Dec.{ltb, eqb}
 use Rattle.refusal.specs.Answer.{Answer, value, provided, _andThen_}
 use Rattle.oam.specs.declared.Sprite.{Sprite}
 use Rattle.oam.specs.declared.SpriteSize.{SpriteSize}
+use Rattle.oam.specs.declared.inner.Sizes.{Sizes}
 
 -- nine bits as a column: 256 and above mean x - 512
 abbrev pub signed9 : ℕ → ℤ
@@ -62,25 +63,31 @@ sized w h = record { width = w; height = h }
 abbrev pub square : ℕ → SpriteSize
 square n = sized n n
 
+abbrev both : SpriteSize → SpriteSize → Sizes
+both small large = record { small = small; large = large }
+
 -- the small and the large size of each setting of objsel
-abbrev pub settings : List (SpriteSize × SpriteSize)
+abbrev pub settings : List Sizes
 settings =
-    (square 8, square 16)
-    ∷ (square 8, square 32)
-    ∷ (square 8, square 64)
-    ∷ (square 16, square 32)
-    ∷ (square 16, square 64)
-    ∷ (square 32, square 64)
-    ∷ (sized 16 32, sized 32 64)
-    ∷ (sized 16 32, square 32)
+    both (square 8) (square 16)
+    ∷ both (square 8) (square 32)
+    ∷ both (square 8) (square 64)
+    ∷ both (square 16) (square 32)
+    ∷ both (square 16) (square 64)
+    ∷ both (square 32) (square 64)
+    ∷ both (sized 16 32) (sized 32 64)
+    ∷ both (sized 16 32) (square 32)
     ∷ []
 
-unfoldable pub sizesOf : ℕ → SpriteSize × SpriteSize
-sizesOf setting = getD settings setting (square 0, square 0)
+abbrev pub noSizes : Sizes
+noSizes = both (square 0) (square 0)
+
+unfoldable pub sizesOf : ℕ → Sizes
+sizesOf setting = getD settings setting noSizes
 
 -- a sprite's size, by bits 5 to 7 of objsel
 unfoldable pub sizeOf : ℕ → Bool → SpriteSize
-sizeOf objsel large = cond large (sizesOf (objsel / 32) .1) (sizesOf (objsel / 32) .0)
+sizeOf objsel large = cond large (sizesOf (objsel / 32) .large) (sizesOf (objsel / 32) .small)
 
 -- the width and the height are 8 to 64
 pub record Sized (s : SpriteSize) : Type 0 where

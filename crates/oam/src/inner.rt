@@ -6,7 +6,7 @@ ghost use mathlib.Core.Path.{_≡_};
 ghost use Prim.Native.Nat.{_+_, _*_, _<_, _≤_};
 ghost use lib.ListN.{length};
 ghost use Rattle.signed.specs.Remainder.{remainder};
-ghost use Rattle.oam.specs.Sprites.{spriteOf, signed9, chrBaseOf, sizeOf, sizesOf, Sized};
+ghost use Rattle.oam.specs.Sprites.{spriteOf, signed9, chrBaseOf, sized, sizeOf, sizesOf, Sized};
 
 // Nine bits as a column: the low byte, and bit 8.
 fn signed_x(low: u8, high: u8) -> i16
@@ -61,54 +61,47 @@ pub fn get_sprite(oam: &[u8], index: u8, objsel: u8) -> Sprite
     }
 }
 
-fn size(width: u8, height: u8) -> SpriteSize
-    ensures { λ r. ⌜ r ≡ record { width = width; height = height } ⌝ }
-{
-    SpriteSize { width, height }
+// The two sizes of a setting of objsel.
+pub struct Sizes {
+    pub small: SpriteSize,
+    pub large: SpriteSize,
 }
 
-// The smaller size of a setting of objsel.
-fn small_size(setting: u8) -> SpriteSize
-    requires { ⌜ setting < 8 ⌝ }
-    ensures { λ r. ⌜ r ≡ sizesOf setting .0 ⌝ }
+fn both(small_width: u8, small_height: u8, large_width: u8, large_height: u8) -> Sizes
+    ensures { λ r. ⌜ r ≡ record { small = sized «small_width» «small_height»; large = sized «large_width» «large_height» } ⌝ }
 {
-    match setting {
-        0 => size(8, 8),
-        1 => size(8, 8),
-        2 => size(8, 8),
-        3 => size(16, 16),
-        4 => size(16, 16),
-        5 => size(32, 32),
-        6 => size(16, 32),
-        _ => size(16, 32),
-    }
+    let small = SpriteSize {
+        width: small_width,
+        height: small_height,
+    };
+    let large = SpriteSize {
+        width: large_width,
+        height: large_height,
+    };
+    Sizes { small, large }
 }
 
-// The larger one.
-fn large_size(setting: u8) -> SpriteSize
+fn sizes_of(setting: u8) -> Sizes
     requires { ⌜ setting < 8 ⌝ }
-    ensures { λ r. ⌜ r ≡ sizesOf setting .1 ⌝ }
+    ensures { λ r. ⌜ r ≡ sizesOf setting ⌝ }
 {
     match setting {
-        0 => size(16, 16),
-        1 => size(32, 32),
-        2 => size(64, 64),
-        3 => size(32, 32),
-        4 => size(64, 64),
-        5 => size(64, 64),
-        6 => size(32, 64),
-        _ => size(32, 32),
+        0 => both(8, 8, 16, 16),
+        1 => both(8, 8, 32, 32),
+        2 => both(8, 8, 64, 64),
+        3 => both(16, 16, 32, 32),
+        4 => both(16, 16, 64, 64),
+        5 => both(32, 32, 64, 64),
+        6 => both(16, 32, 32, 64),
+        _ => both(16, 32, 32, 32),
     }
 }
 
 pub fn sprite_size(objsel: u8, large: bool) -> SpriteSize
     ensures { λ r. ⌜ (r ≡ sizeOf objsel large) × Sized r ⌝ }
 {
-    if large {
-        large_size(objsel / 32)
-    } else {
-        small_size(objsel / 32)
-    }
+    let sizes = sizes_of(objsel / 32);
+    if large { sizes.large } else { sizes.small }
 }
 
 pub fn nine_bits(x: i16) -> u16

@@ -8,14 +8,15 @@ use native.Mathlib.Omega.{arith}
 use lib.Dec.{T, leb, leb→le}
 use lib.ListN.{length, getD}
 use Rattle.oam.specs.declared.SpriteSize.{SpriteSize}
-use Rattle.oam.specs.Sprites.{settings, square, sizesOf, sizeOf, Sized}
+use Rattle.oam.specs.declared.inner.Sizes.{Sizes}
+use Rattle.oam.specs.Sprites.{settings, noSizes, sizesOf, sizeOf, Sized}
 
 abbrev fair : SpriteSize → Bool
 fair s = (leb 8 (s .width) && leb (s .width) 64) && (leb 8 (s .height) && leb (s .height) 64)
 
-abbrev all : List (SpriteSize × SpriteSize) → Bool
+abbrev all : List Sizes → Bool
 all [] = true
-all (p ∷ l) = (fair (p .0) && fair (p .1)) && all l
+all (p ∷ l) = (fair (p .small) && fair (p .large)) && all l
 
 both : (a b : Bool) → T (a && b) → T a × T b
 both true b t = (tt, t)
@@ -23,9 +24,9 @@ both false b t = absurd t
 
 is-fair : (s : SpriteSize) → T (fair s) → Sized s
 is-fair s t =
-    let p = both (leb 8 (s .width) && leb (s .width) 64) (leb 8 (s .height) && leb (s .height) 64) t in
-    let w = both (leb 8 (s .width)) (leb (s .width) 64) (p .0) in
-    let h = both (leb 8 (s .height)) (leb (s .height) 64) (p .1) in
+    let f = both (leb 8 (s .width) && leb (s .width) 64) (leb 8 (s .height) && leb (s .height) 64) t in
+    let w = both (leb 8 (s .width)) (leb (s .width) 64) (f .0) in
+    let h = both (leb 8 (s .height)) (leb (s .height) 64) (f .1) in
     record {
       wide = leb→le 8 (s .width) (w .0);
       narrow = leb→le (s .width) 64 (w .1);
@@ -33,13 +34,13 @@ is-fair s t =
       low = leb→le (s .height) 64 (h .1);
     }
 
-at : (l : List (SpriteSize × SpriteSize)) → T (all l) → (i : ℕ) → i < length l →
-    Sized (getD l i (square 0, square 0) .0) × Sized (getD l i (square 0, square 0) .1)
+at : (l : List Sizes) → T (all l) → (i : ℕ) → i < length l →
+    Sized (getD l i noSizes .small) × Sized (getD l i noSizes .large)
 at [] t i h = absurd (omega arith)
 at (p ∷ l) t zero h =
-    let f = both (fair (p .0)) (fair (p .1)) (both (fair (p .0) && fair (p .1)) (all l) t .0) in
-    (is-fair (p .0) (f .0), is-fair (p .1) (f .1))
-at (p ∷ l) t (suc i) h = at l (both (fair (p .0) && fair (p .1)) (all l) t .1) i (omega arith)
+    let f = both (fair (p .small)) (fair (p .large)) (both (fair (p .small) && fair (p .large)) (all l) t .0) in
+    (is-fair (p .small) (f .0), is-fair (p .large) (f .1))
+at (p ∷ l) t (suc i) h = at l (both (fair (p .small) && fair (p .large)) (all l) t .1) i (omega arith)
 
 pub size-fair : (objsel : ℕ) (large : Bool) → objsel < 256 → Sized (sizeOf objsel large)
 unfolding sizeOf sizesOf
