@@ -74,12 +74,12 @@ fn fine(port: OamPort) -> PortAnswer
     }
 }
 
-fn refused(n: Refusal, port: OamPort) -> PortAnswer
-    ensures { λ r. ⌜ r ≡ record { verdict = Refused n; port = port } ⌝ }
+fn refused(n: Refusal, kept: OamPort) -> PortAnswer
+    ensures { λ r. ⌜ r ≡ record { verdict = Refused n; port = kept } ⌝ }
 {
     PortAnswer {
         verdict: Verdict::Refused(n),
-        port,
+        port: kept,
     }
 }
 
