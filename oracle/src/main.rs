@@ -1,8 +1,11 @@
 //! `oracle LIST` prints a list of what the Rust answers.
 
+mod choice;
 mod colour;
 mod generator;
+mod oam;
 mod outside;
+mod port;
 mod registers;
 mod tiles;
 
@@ -16,9 +19,12 @@ fn main() -> ExitCode {
         ["colour"] => colour::list(),
         ["tiles"] => tiles::list(),
         ["registers"] => registers::list(),
+        ["oam"] => oam::list(),
+        ["choice"] => choice::list(),
+        ["port"] => port::list(),
         ["outside"] => outside::list(),
         _ => {
-            eprintln!("usage: oracle colour | tiles | registers | outside");
+            eprintln!("usage: oracle colour | tiles | registers | oam | choice | port | outside");
             return ExitCode::from(2);
         }
     };

@@ -98,8 +98,20 @@ fn windows() -> String {
     out
 }
 
+/// Sprite 0 has top 224, the others have top 100.
 fn sprites() -> String {
-    line("get_sprite sprite 128", || OAM::new().get_sprite(128, 0))
+    let mut oam = OAM::new();
+    for n in 0..512 {
+        oam.write_data(if n == 1 { 224 } else { 100 });
+    }
+    let mut out = line("get_sprite sprite 128", || oam.get_sprite(128, 0));
+    for row in [224, 356] {
+        out += &line(&format!("eval_sprites_for_scanline row {row}"), || {
+            let (visible, time_over, range_over) = oam.eval_sprites_for_scanline(row, 0, 0, false);
+            (visible.len(), time_over, range_over)
+        });
+    }
+    out
 }
 
 /// Row 0 of the tile at word 0, leftmost pixel: the plane pairs hold 1, 3, 2, 1. What follows is blank.

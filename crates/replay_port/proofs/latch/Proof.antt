@@ -1,0 +1,39 @@
+use borrow.Author.Needs.{needs}
+use Prim.Native.Nat.{_-_}
+use lib.ListN.{length}
+use mathlib.Core.Path.{_≡_}
+use Rattle.replay_port.proofs.latch.Statement.{statement}
+use Rattle.replay_port.proofs.latch.Tie as tie
+
+abbrev Inv-loop : tie.InvT-loop
+Inv-loop oam₀ port₀ x₀ n₀ oam port x n = length oam ≡ length oam₀
+
+abbrev μ-loop : tie.MeasureT-loop
+μ-loop oam₀ port₀ x₀ n₀ oam port x n = 64 - n
+
+pub latch-spec : {M : Type 1} → statement M
+latch-spec =
+    tie.close
+    (tie.spec
+    Inv-loop
+    μ-loop
+    (λ c. search needs)
+    (λ c κs. search needs)
+    (λ c κs. search needs)
+    (λ c κs. search needs)
+    (λ c κs. search needs)
+    (λ c κs. search needs)
+    (λ c κs. search needs)
+    (λ c κs. search needs)
+    (λ c κs. search needs)
+    (λ c. search needs)
+    (λ c κs. search needs)
+    (λ c. search needs)
+    (λ c κs. search needs)
+    (λ c. search needs)
+    (λ c κs. search needs)
+    (λ c. search needs)
+    (λ c. search needs)
+    (λ c. search needs)
+    (λ c. search needs)
+    (λ c. search needs))
