@@ -26,19 +26,10 @@ fn nine_bits(x: i16) -> u16 {
     (x as u16) & 0x01ff
 }
 
-/// 0 for a column of the picture, 1 for one left of it, as far as -256; 2 for any other.
-fn side(x: i16) -> u64 {
-    match x {
-        0..256 => 0,
-        -256..0 => 1,
-        _ => 2,
-    }
-}
-
-/// Thirteen digits: nine bits of the column, its side, top, tile, base.
+/// Twelve digits: the 16 bits of the column, top, tile, base.
 pub fn place(s: &Sprite) -> u64 {
     let tiles = (s.tile as u64) << 16 | s.chr_base as u64;
-    (nine_bits(s.x) as u64) << 36 | side(s.x) << 32 | (s.y as u64) << 24 | tiles
+    (s.x as u16 as u64) << 32 | (s.y as u64) << 24 | tiles
 }
 
 /// Seven digits: table, palette, priority; 1 if flipped in x, 2 if in y, 4 if large.
@@ -90,7 +81,7 @@ fn sprites() -> String {
         let oam = loaded(&memory(m));
         for i in 0..128 {
             let s = oam.get_sprite(i, numbers.below(256) as u8);
-            out += &format!("{:013x}{:07x}\n", place(&s), marks(&s));
+            out += &format!("{:012x}{:07x}\n", place(&s), marks(&s));
         }
     }
     out

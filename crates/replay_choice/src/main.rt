@@ -1,5 +1,4 @@
 // Replays the oracle's list `choice`: the sprites chosen for a row, their counting tiles, the flags.
-mod code;
 mod rows;
 mod scene;
 

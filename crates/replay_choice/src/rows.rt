@@ -1,12 +1,12 @@
 // The rows of a scene.
-use crate::code::fold;
-use crate::code::marks;
-use crate::code::one;
-use crate::code::place;
 use crate::line;
 use crate::scene;
 use choice::Chosen;
 use choice::VisibleSprite;
+use digest::fold;
+use digest::marks;
+use digest::one;
+use digest::place;
 use generator::next;
 use generator::word;
 use oam_flags::OamFlags;

@@ -1,11 +1,10 @@
 // Replays the oracle's list `oam`: the sprites that sprite memory describes, their sizes and their
 // columns.
-mod code;
 mod memory;
 
-use code::fold;
-use code::marks;
-use code::place;
+use digest::fold;
+use digest::marks;
+use digest::place;
 use generator::next;
 use generator::word;
 use oam::Sprite;
@@ -52,7 +51,7 @@ fn show(oam: &[u8], seed: u32) -> u32 {
     for i in 0..128u8 {
         x = next(x);
         let s = sprite(oam::get_sprite(oam, i, (word(x) % 256) as u8));
-        io::print_hex(1, place(s), 13);
+        io::print_hex(1, place(s), 12);
         line(marks(s), 7);
     }
     x
@@ -69,7 +68,7 @@ fn sprites(oam: &mut [u8])
 }
 
 // A digest of a memory's 128 sprites.
-fn digest(oam: &[u8], objsel: u8) -> u32 {
+fn one_digest(oam: &[u8], objsel: u8) -> u32 {
     let mut d: u32 = 0;
     for i in 0..128u8 {
         let s = sprite(oam::get_sprite(oam, i, objsel));
@@ -81,7 +80,7 @@ fn digest(oam: &[u8], objsel: u8) -> u32 {
 // Every objsel.
 fn digests(oam: &[u8]) {
     for n in 0..256u16 {
-        line(digest(oam, n as u8) as u64, 8);
+        line(one_digest(oam, n as u8) as u64, 8);
     }
 }
 

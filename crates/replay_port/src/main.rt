@@ -1,4 +1,5 @@
 // Replays the oracle's list `port`: the data port of sprite memory.
+use digest::fold;
 use generator::next;
 use generator::word;
 use oam_port::ByteAnswer;
@@ -15,15 +16,15 @@ fn end_line() {
 }
 
 // A digest with one byte more.
-fn fold(digest: u32, byte: u8) -> u32 {
-    ((digest as u64 * 961 + byte as u64) % 4294967296) as u32
+fn folded(digest: u32, byte: u8) -> u32 {
+    fold(digest, byte as u64)
 }
 
 // A digest of the memory.
-fn digest(oam: &[u8]) -> u32 {
+fn memory(oam: &[u8]) -> u32 {
     let mut d: u32 = 0;
     for i in 0..oam.len() {
-        d = fold(d, oam[i]);
+        d = folded(d, oam[i]);
     }
     d
 }
@@ -118,7 +119,7 @@ fn mixed_line(given: OamPort, oam: &mut [u8], seed: u32) -> Turn {
         port = access(port, oam, word(y) % 16, word(x));
     }
     io::write_all(1, b" ");
-    digits(digest(oam) as u64, 8);
+    digits(memory(oam) as u64, 8);
     end_line();
     Turn { port, x }
 }
@@ -158,7 +159,7 @@ fn runs(given: OamPort, oam: &mut [u8]) -> OamPort {
         let begun = start(port, oam, edge(n / 2), n % 2 == 1);
         let turn = write_run(begun, oam, x);
         x = turn.x;
-        digits(digest(oam) as u64, 8);
+        digits(memory(oam) as u64, 8);
         io::write_all(1, b" ");
         port = read_run(start(turn.port, oam, edge(n / 2), n % 2 == 1), oam, 80);
     }

@@ -1,15 +1,16 @@
 -- Signed numbers as the machine has them, once over the width: a result read back, and the difference of two unsigned
 -- numbers.
 use Prim.Native.Nat.{ℕ, zero, suc, _-_, _^_, _<_}
-use mathlib.Core.Path.{_≡_, _∙_}
+use mathlib.Core.Path.{_≡_, ap, _∙_}
 use mathlib.Core.Bool.{Bool, true, false, cond}
 use native.Mathlib.Omega.{arith}
 use lib.Dec.{ltb}
 use lib.IntN.{ℤ, pos, negsuc, _-ℤ_}
 use lib.Signed.{mag}
-use mir.Syntax.{Width}
+use mir.Syntax.{Width, w16, w32}
 use mir.Val.{SFits, toZ, ofZ, hbits}
 use mir.ValLaws.{toZ-ofZ, toZ-pos}
+use mir.Facts.{sfits-widen}
 
 pick-small : (t : Bool) (x y : ℤ) (k : ℕ) → mag x < k → mag y < k → mag (cond t x y) < k
 pick-small true x y k p q = p
@@ -35,3 +36,7 @@ module _ (w : Width) (a b : ℕ) (p : a < 2 ^ hbits w) (q : b < 2 ^ hbits w) whe
   -- read back from its bits
   pub difference-read : toZ w (ofZ w (toZ w a -ℤ toZ w b)) ≡ pos a -ℤ pos b
   difference-read = rw difference (toZ-ofZ w (pos a -ℤ pos b) difference-fits)
+
+-- what a 16-bit number is at 32 bits
+pub widened : (z : ℤ) → SFits w16 z → toZ w32 (ofZ w32 (toZ w16 (ofZ w16 z))) ≡ z
+widened z f = ap (λ (y : ℤ). toZ w32 (ofZ w32 y)) (toZ-ofZ w16 z f) ∙ toZ-ofZ w32 z (sfits-widen tt f)

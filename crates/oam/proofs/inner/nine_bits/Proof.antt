@@ -1,4 +1,4 @@
-use Rattle.oam.proofs.NineBits.{widened}
+use Rattle.signed.proofs.Signed.{widened}
 use Rattle.signed.specs.Remainder.{remainder}
 use mir.Facts.{fits-ofZ, sfits-toZ, sfits-widen}
 use lib.IntN.{ℤ}

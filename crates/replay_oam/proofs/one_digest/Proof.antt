@@ -1,7 +1,7 @@
 use borrow.Author.Needs.{needs}
 use Prim.Native.Nat.{_-_}
-use Rattle.replay_oam.proofs.digest.Statement.{statement}
-use Rattle.replay_oam.proofs.digest.Tie as tie
+use Rattle.replay_oam.proofs.one_digest.Statement.{statement}
+use Rattle.replay_oam.proofs.one_digest.Tie as tie
 
 abbrev Inv-loop : tie.InvT-loop
 Inv-loop oam objsel d₀ i₀ d i = Unit {0}
@@ -9,8 +9,8 @@ Inv-loop oam objsel d₀ i₀ d i = Unit {0}
 abbrev μ-loop : tie.MeasureT-loop
 μ-loop oam objsel d₀ i₀ d i = 128 - i
 
-pub digest-spec : {M : Type 1} → statement M
-digest-spec =
+pub one-digest-spec : {M : Type 1} → statement M
+one-digest-spec =
     tie.close
     (tie.spec
     Inv-loop

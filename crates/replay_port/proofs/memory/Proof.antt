@@ -2,8 +2,8 @@ use borrow.Author.Needs.{needs}
 use Prim.Native.Nat.{_-_}
 use lib.ListN.{length}
 use mathlib.Core.Path.{_≡_}
-use Rattle.replay_port.proofs.digest.Statement.{statement}
-use Rattle.replay_port.proofs.digest.Tie as tie
+use Rattle.replay_port.proofs.memory.Statement.{statement}
+use Rattle.replay_port.proofs.memory.Tie as tie
 
 abbrev Inv-loop : tie.InvT-loop
 Inv-loop oam d₀ i₀ i-end d i = i-end ≡ length oam
@@ -11,8 +11,8 @@ Inv-loop oam d₀ i₀ i-end d i = i-end ≡ length oam
 abbrev μ-loop : tie.MeasureT-loop
 μ-loop oam d₀ i₀ i-end d i = i-end - i
 
-pub digest-spec : {M : Type 1} → statement M
-digest-spec =
+pub memory-spec : {M : Type 1} → statement M
+memory-spec =
     tie.close
     (tie.spec
     Inv-loop

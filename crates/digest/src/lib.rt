@@ -1,0 +1,38 @@
+// What a list of the comparison holds of a sprite, and digests of lists of numbers.
+use oam::Sprite;
+use signed::inner::rem_euclid;
+ghost use mathlib.Core.Path.{_≡_};
+ghost use Prim.Native.Nat.{_<_};
+ghost use Rattle.digest.specs.Digest.{folded, oneOf, placeOf, marksOf};
+
+// A digest and one more number: its high half, then its low half.
+pub fn fold(digest: u32, v: u64) -> u32
+    ensures { λ r. ⌜ r ≡ folded digest v ⌝ }
+{
+    let high = digest as u64 * 31 + v / 4294967296;
+    ((high * 31 + v % 4294967296) % 4294967296) as u32
+}
+
+// 1 for true, 0 for false.
+pub fn one(b: bool) -> u64
+    ensures { λ r. ⌜ (r ≡ oneOf b) × (r < 2) ⌝ }
+{
+    if b { 1 } else { 0 }
+}
+
+// Twelve digits: the 16 bits of the column, top, tile, base.
+pub fn place(s: Sprite) -> u64
+    ensures { λ r. ⌜ r ≡ placeOf s ⌝ }
+{
+    let column = rem_euclid(s.x as i32, 65536) as u64;
+    let tiles = s.tile as u64 * 65536 + s.chr_base as u64;
+    column * 4294967296 + s.y as u64 * 16777216 + tiles
+}
+
+// Seven digits: table, palette, priority; 1 if flipped in x, 2 if in y, 4 if large.
+pub fn marks(s: Sprite) -> u64
+    ensures { λ r. ⌜ r ≡ marksOf s ⌝ }
+{
+    let bits = one(s.flip_x) + one(s.flip_y) * 2 + one(s.large) * 4;
+    s.name_table as u64 * 1048576 + s.palette as u64 * 4096 + s.priority as u64 * 16 + bits
+}
