@@ -48,11 +48,11 @@ pub fn get_sprite(oam: &[u8], index: u8, objsel: u8) -> Sprite
     let x = signed_x(x_lo, t2_bits % 2);
     let base = chr_base(objsel, name_table);
     Sprite {
-        x: x,
-        y: y,
-        tile: tile,
+        x,
+        y,
+        tile,
         chr_base: base,
-        name_table: name_table,
+        name_table,
         palette: attr / 2 % 8,
         priority: attr / 16 % 4,
         flip_x: attr / 64 % 2 == 1,

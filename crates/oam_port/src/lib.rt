@@ -58,11 +58,7 @@ fn data_tested(oam_len: usize, address: u16) -> Verdict
     if oam_len != OAM_SIZE {
         return Verdict::Refused(Refusal::Oam);
     }
-    if address < PORT_ADDRESSES {
-        Verdict::Fine
-    } else {
-        Verdict::Refused(Refusal::Argument)
-    }
+    address_tested(address)
 }
 
 fn fine(port: OamPort) -> PortAnswer

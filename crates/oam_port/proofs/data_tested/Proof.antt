@@ -1,4 +1,5 @@
-use borrow.Author.Tests.{lt-ltb, le-ltb, eq-eqb, ne-eqb}
+use borrow.Author.Tests.{eq-eqb, ne-eqb}
+use borrow.Author.Needs.{needs}
 use Rattle.oam_port.proofs.data_tested.Statement.{statement}
 use Rattle.oam_port.proofs.data_tested.Tie as tie
 
@@ -6,10 +7,7 @@ returns : tie.Need-returns
 returns c = (simp (ne-eqb _ _ (c .if1 .taken)), λ e. absurd e)
 
 returns-2 : tie.Need-returns-2
-returns-2 c = (simp (eq-eqb _ _ (c .before .if1 .left), lt-ltb _ _ (c .if2 .taken)), λ e. (c .before .if1 .left, c .if2 .taken))
-
-returns-3 : tie.Need-returns-3
-returns-3 c = (simp (eq-eqb _ _ (c .before .if1 .left), le-ltb _ _ (c .if2 .left)), λ e. absurd e)
+returns-2 c = (simp (eq-eqb _ _ (c .before .if1 .left)) (c .address-tested .ensures .0), λ e. (c .before .if1 .left, c .address-tested .ensures .1 e))
 
 pub data-tested-spec : {M : Type 1} → statement M
-data-tested-spec = tie.close (tie.spec returns returns-2 returns-3)
+data-tested-spec = tie.close (tie.spec returns (λ c κs. search needs) returns-2)
