@@ -1,8 +1,12 @@
--- What a list of the comparison holds of a sprite, and digests of lists of numbers.
-use Prim.Native.Nat.{ℕ, _+_, _*_, _/_, _%_}
+-- What the comparisons share: the bits of a sprite in the second table, what a list holds of a sprite, and digests.
+use Prim.Native.Nat.{ℕ, _+_, _*_, _/_, _%_, _^_}
 use mathlib.Core.Bool.{Bool, cond}
 use Rattle.signed.specs.Remainder.{remainder}
 use Rattle.oam.specs.declared.Sprite.{Sprite}
+
+-- a byte whose pair of bits k, counted from the low end, is replaced
+abbrev pub packedOf : ℕ → ℕ → ℕ → ℕ
+packedOf byte k bits = byte % 4 ^ k + bits * 4 ^ k + byte / 4 ^ (k + 1) * 4 ^ (k + 1)
 
 -- d x 31 and the high half, that x 31 and the low half, mod 2 ^ 32
 abbrev pub folded : ℕ → ℕ → ℕ

@@ -1,9 +1,23 @@
-// What a list of the comparison holds of a sprite, and digests of lists of numbers.
+// What the comparisons share: the bits of a sprite in the second table, what a list holds of a
+// sprite, and digests of lists of numbers.
 use oam::Sprite;
 use signed::inner::rem_euclid;
 ghost use mathlib.Core.Path.{_≡_};
-ghost use Prim.Native.Nat.{_<_};
-ghost use Rattle.digest.specs.Digest.{folded, oneOf, placeOf, marksOf};
+ghost use Prim.Native.Nat.{_%_, _<_};
+ghost use Rattle.digest.specs.Digest.{packedOf, folded, oneOf, placeOf, marksOf};
+
+// A byte of the second table in which one of its four sprites has these two bits.
+pub fn packed(byte: u8, sprite: usize, bits: u8) -> u8
+    ensures { λ r. ⌜ r ≡ packedOf byte (sprite % 4) (bits % 4) ⌝ }
+{
+    let two = bits % 4;
+    match sprite % 4 {
+        0 => two + byte / 4 * 4,
+        1 => byte % 4 + two * 4 + byte / 16 * 16,
+        2 => byte % 16 + two * 16 + byte / 64 * 64,
+        _ => byte % 64 + two * 64,
+    }
+}
 
 // A digest and one more number: its high half, then its low half.
 pub fn fold(digest: u32, v: u64) -> u32

@@ -1,4 +1,5 @@
 // The sprite memories that are searched.
+use digest::packed;
 use generator::next;
 use generator::word;
 ghost use Prim.Native.Nat.{_<_, _≤_};
@@ -27,18 +28,6 @@ fn beside(k: u16, a: u16, b: u16) -> u16
     ensures { λ r. ⌜ r < 512 ⌝ }
 {
     (edge(k, b % 512) + 511 + a / 8 % 3) % 512
-}
-
-// A byte of the second table in which one of its four sprites has these two bits.
-fn packed(byte: u8, sprite: usize, bits: u8) -> u8
-    requires { ⌜ bits < 4 ⌝ }
-{
-    match sprite {
-        0 => bits + byte / 4 * 4,
-        1 => byte % 4 + bits * 4 + byte / 16 * 16,
-        2 => byte % 16 + bits * 16 + byte / 64 * 64,
-        _ => byte % 64 + bits * 64,
-    }
 }
 
 // The two bits of a sprite: bit 8 of the column, then the size.

@@ -1,4 +1,5 @@
 // The sprite memories that are read.
+use digest::packed;
 use generator::next;
 use generator::word;
 ghost use Prim.Native.Nat.{_<_};
@@ -26,18 +27,6 @@ fn edge(k: usize) -> u16
         5 => 504,
         6 => 505,
         _ => 511,
-    }
-}
-
-// A byte of the second table in which one of its four sprites has these two bits.
-fn packed(byte: u8, sprite: usize, bits: u8) -> u8
-    requires { ⌜ bits < 4 ⌝ }
-{
-    match sprite {
-        0 => bits + byte / 4 * 4,
-        1 => byte % 4 + bits * 4 + byte / 16 * 16,
-        2 => byte % 16 + bits * 16 + byte / 64 * 64,
-        _ => byte % 64 + bits * 64,
     }
 }
 

@@ -3,21 +3,10 @@ use crate::LARGEST;
 use crate::say;
 use choice::Chosen;
 use choice::VisibleSprite;
+use digest::packed;
 ghost use Prim.Native.Nat.{_<_, _≤_, _+_};
 ghost use mathlib.Core.Path.{_≡_};
 ghost use lib.ListN.{length};
-
-// A byte of the second table in which one of its four sprites has these two bits.
-fn packed(byte: u8, sprite: usize, bits: u8) -> u8
-    requires { ⌜ bits < 4 ⌝ }
-{
-    match sprite {
-        0 => bits + byte / 4 * 4,
-        1 => byte % 4 + bits * 4 + byte / 16 * 16,
-        2 => byte % 16 + bits * 16 + byte / 64 * 64,
-        _ => byte % 64 + bits * 64,
-    }
-}
 
 fn set(oam: &mut [u8], at: usize, value: u8)
     requires { ⌜ length (now oam) ≡ 544 ⌝ ∗ ⌜ at < 544 ⌝ }
