@@ -4,13 +4,11 @@ use Prim.Native.Nat.{ℕ, _+_, _-_, _/_, _%_}
 use mathlib.Core.Bool.{Bool, false, cond}
 use mathlib.Core.List.{List, [], _∷_, _++_, map}
 use lib.ListN.{length, take, replicate}
-use lib.IntN.{pos}
 use lib.Dec.{ltb, eqb}
 use Rattle.refusal.specs.Answer.{Answer, value, provided, Outcome, outcome}
 use Rattle.lists.specs.Tab.{tab}
 use Rattle.lists.specs.Keep.{keep}
-use Rattle.oam.specs.declared.Sprite.{Sprite}
-use Rattle.oam.specs.Sprites.{spriteOf}
+use Rattle.oam.specs.Sprites.{spriteOf, blankSprite}
 use Rattle.sprite_row.specs.SpriteRow.{inRange, tilesOf}
 use Rattle.choice.specs.declared.VisibleSprite.{VisibleSprite}
 use Rattle.choice.specs.declared.Chosen.{Chosen}
@@ -52,23 +50,7 @@ placedAt oam objsel start k = visible oam objsel (searchAt start k)
 
 -- what stands in a place that holds no sprite
 abbrev pub blankPlace : VisibleSprite
-blankPlace =
-    record {
-      index = 0;
-      sprite =
-          record {
-            x = pos 0;
-            y = 0;
-            tile = 0;
-            «chr_base» = 0;
-            «name_table» = 0;
-            palette = 0;
-            priority = 0;
-            «flip_x» = false;
-            «flip_y» = false;
-            large = false;
-          };
-    }
+blankPlace = record { index = 0; sprite = blankSprite }
 
 -- a list of sprites in n places: those beyond its length are blank
 unfoldable pub places : ℕ → List VisibleSprite → List VisibleSprite

@@ -30,18 +30,7 @@ fn search_start(oamadd: u16) -> u8
 fn blank() -> VisibleSprite
     ensures { λ r. ⌜ r ≡ blankPlace ⌝ }
 {
-    let sprite = Sprite {
-        x: 0,
-        y: 0,
-        tile: 0,
-        chr_base: 0,
-        name_table: 0,
-        palette: 0,
-        priority: 0,
-        flip_x: false,
-        flip_y: false,
-        large: false,
-    };
+    let sprite = Sprite::blank();
     VisibleSprite { index: 0, sprite }
 }
 

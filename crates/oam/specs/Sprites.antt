@@ -50,6 +50,22 @@ spriteWith x base oam i =
 unfoldable pub spriteOf : List ℕ → ℕ → ℕ → Sprite
 spriteOf oam i objsel = spriteWith (signed9 (x9Of oam i)) (chrBaseOf objsel (byteOf oam i 3 % 2)) oam i
 
+-- what stands where there is no sprite
+abbrev pub blankSprite : Sprite
+blankSprite =
+    record {
+      x = pos 0;
+      y = 0;
+      tile = 0;
+      «chr_base» = 0;
+      «name_table» = 0;
+      palette = 0;
+      priority = 0;
+      «flip_x» = false;
+      «flip_y» = false;
+      large = false;
+    }
+
 -- sprite memory of another length is refused 4, a sprite above 127 is refused 7
 abbrev pub spriteTests : ℕ → ℕ → Answer Unit
 spriteTests bytes i = provided (eqb bytes 544) 4 (provided (ltb i 128) 7 (value tt))

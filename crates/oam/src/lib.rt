@@ -9,7 +9,7 @@ ghost use Prim.Native.Nat.{_<_};
 ghost use Rattle.refusal.specs.Verdicts.{verdictMeans, Passed};
 ghost use Rattle.signed.specs.Remainder.{remainder};
 ghost use Rattle.oam.specs.Answers.{spriteMeans};
-ghost use Rattle.oam.specs.Sprites.{spriteTests, spriteAnswer, sizeOf};
+ghost use Rattle.oam.specs.Sprites.{blankSprite, spriteTests, spriteAnswer, sizeOf};
 
 // The bytes of sprite memory: 4 for each sprite, then 2 bits for each.
 pub const OAM_SIZE: usize = 544;
@@ -36,6 +36,26 @@ pub struct Sprite {
     pub flip_y: bool,
     // The larger of the two sizes that objsel gives.
     pub large: bool,
+}
+
+impl Sprite {
+    // What stands where there is no sprite: every field 0 or false.
+    pub fn blank() -> Sprite
+        ensures { λ r. ⌜ r ≡ blankSprite ⌝ }
+    {
+        Sprite {
+            x: 0,
+            y: 0,
+            tile: 0,
+            chr_base: 0,
+            name_table: 0,
+            palette: 0,
+            priority: 0,
+            flip_x: false,
+            flip_y: false,
+            large: false,
+        }
+    }
 }
 
 pub struct SpriteSize {

@@ -19,28 +19,13 @@ fn line(v: u64, digits: usize) {
     io::write_all(1, b"\n");
 }
 
-fn none() -> Sprite {
-    Sprite {
-        x: 0,
-        y: 0,
-        tile: 0,
-        chr_base: 0,
-        name_table: 0,
-        palette: 0,
-        priority: 0,
-        flip_x: false,
-        flip_y: false,
-        large: false,
-    }
-}
-
 // The sprite. A refusal writes a word that no list has.
 fn sprite(answer: SpriteAnswer) -> Sprite {
     match answer {
         SpriteAnswer::Is(s) => s,
         SpriteAnswer::Refused(_) => {
             io::write_all(1, b"refused ");
-            none()
+            Sprite::blank()
         }
     }
 }
