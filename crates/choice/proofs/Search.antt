@@ -7,16 +7,16 @@ use mathlib.Core.List.{List, [], _∷_, _++_, map, map-append, append-assoc}
 use native.Mathlib.Nat.{add-zero, zero-add, add-assoc}
 use native.Mathlib.Omega.{arith}
 use lib.ListN.{length, take, set, replicate, length-append, length-map}
-use lib.Seq.{take-all, take-at, set-append-seam}
+use lib.Seq.{take-at, set-append-seam}
 use lib.Dec.{ltb}
-use borrow.Author.Tests.{lt-ltb, le-ltb}
+use borrow.Author.Tests.{lt-ltb}
 use Rattle.lists.specs.Tab.{tab, tab-none, tab-more, tab-split}
 use Rattle.lists.specs.Keep.{keep, keep-none, keep-append, keep-yes, keep-no}
 use Rattle.oam.specs.Sprites.{spriteOf}
 use Rattle.sprite_row.specs.SpriteRow.{inRange, tilesOf}
 use Rattle.choice.specs.declared.VisibleSprite.{VisibleSprite}
 use Rattle.choice.specs.declared.Chosen.{Chosen}
-use Rattle.choice.specs.Choice.{searchAt, found, tileSum, visible, blankPlace, places, choiceOf, noneChosen}
+use Rattle.choice.specs.Choice.{searchAt, found, tileSum, visible, blankPlace, places, choiceOf}
 
 -- in n places, one more is set at the length
 places-more : (n : ℕ) (l : List VisibleSprite) (p : VisibleSprite) → length l < n → set (places n l) (length l) p ≡ places n (l ++ p ∷ [])

@@ -1,6 +1,6 @@
 -- Nine bits as a signed column, and back: a sprite's x is -256 to 255, and its nine bits are those of its memory.
 use Prim.Native.Nat.{ℕ, _<_, _≤_, _*_}
-use mathlib.Core.Path.{_≡_, refl, _∙_}
+use mathlib.Core.Path.{_≡_, refl}
 use mathlib.Core.Bool.{Bool, true, false}
 use mathlib.Core.List.{List}
 use native.Mathlib.Omega.{arith}
@@ -9,7 +9,7 @@ use lib.ListN.{getD}
 use lib.Signed.{mag}
 use borrow.Author.Tests.{lt-ltb, ltb-true, ltb-false}
 use Rattle.signed.specs.Remainder.{remainder}
-use Rattle.oam.specs.Sprites.{signed9, pairOf, x9Of, spriteOf}
+use Rattle.oam.specs.Sprites.{signed9, x9Of, spriteOf}
 
 module _ (n : ℕ) (h : n < 512) where
   pub nine-back : remainder (signed9 n) 512 ≡ n

@@ -1,6 +1,6 @@
 -- What the 544 bytes of sprite memory say of each of the 128 sprites.
 use Prim.Native.Nat.{ℕ, _+_, _-_, _*_, _/_, _%_, _^_, _≤_}
-use mathlib.Core.Bool.{Bool, true, false, cond}
+use mathlib.Core.Bool.{Bool, false, cond}
 use mathlib.Core.List.{List, [], _∷_}
 use lib.ListN.{getD, length}
 use lib.IntN.{ℤ, pos, _-ℤ_}

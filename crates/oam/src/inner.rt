@@ -3,7 +3,7 @@ use crate::Sprite;
 use crate::SpriteSize;
 use signed::inner::rem_euclid;
 ghost use mathlib.Core.Path.{_≡_};
-ghost use Prim.Native.Nat.{_+_, _*_, _<_, _≤_};
+ghost use Prim.Native.Nat.{_+_, _*_, _<_};
 ghost use lib.ListN.{length};
 ghost use Rattle.signed.specs.Remainder.{remainder};
 ghost use Rattle.oam.specs.Sprites.{spriteOf, signed9, chrBaseOf, sized, sizeOf, sizesOf, Sized};

@@ -1,5 +1,5 @@
 -- The kept flags.
-use mathlib.Core.Bool.{Bool, true, false, _||_}
+use mathlib.Core.Bool.{Bool, false, _||_}
 use Rattle.oam_flags.specs.declared.OamFlags.{OamFlags}
 
 -- the old ones or the new

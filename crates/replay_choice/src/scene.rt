@@ -2,7 +2,7 @@
 use digest::packed;
 use generator::next;
 use generator::word;
-ghost use Prim.Native.Nat.{_<_, _≤_};
+ghost use Prim.Native.Nat.{_<_};
 ghost use mathlib.Core.Path.{_≡_};
 ghost use lib.ListN.{length};
 

@@ -1,5 +1,5 @@
 -- The ways through `in_range`, over the values that its calls return.
-use Prim.Native.Nat.{ℕ, _+_, _-_, _<_, _≤_}
+use Prim.Native.Nat.{ℕ, _-_, _<_, _≤_}
 use mathlib.Core.Path.{_≡_, refl, sym, _∙_, ap}
 use mathlib.Core.Bool.{Bool, true, false, not}
 use native.Mathlib.Omega.{arith}
@@ -10,10 +10,10 @@ use mir.Syntax.{w16}
 use mir.Val.{toZ, ofZ}
 use Rattle.signed.specs.Remainder.{remainder}
 use Rattle.signed.proofs.Signed.{read-back}
-use borrow.Author.Tests.{lt-ltb, le-ltb, le-leb, lt-leb, leb-true, leb-false}
+use borrow.Author.Tests.{lt-ltb, le-ltb, leb-true, leb-false}
 use Rattle.oam.specs.declared.Sprite.{Sprite}
 use Rattle.oam.specs.declared.SpriteSize.{SpriteSize}
-use Rattle.sprite_row.specs.SpriteRow.{sizeIn, lineOf, linesOf, meetsRow, passes, passedOver, inRange, x9}
+use Rattle.sprite_row.specs.SpriteRow.{sizeIn, lineOf, linesOf, meetsRow, passes, inRange, x9}
 
 -- its last column is below 512
 pub ends-by : (a : ℕ) → leb a 512 ≡ ltb (a - 1) 512

@@ -1,7 +1,7 @@
 use Rattle.digest.specs.Digest.{packedOf}
 use native.Mathlib.Omega.{arith}
 use mathlib.Core.Path.{_≡_, ap, sym, _∙_}
-use Prim.Native.Nat.{ℕ, _+_, _*_, _/_, _%_, _^_, _<_}
+use Prim.Native.Nat.{ℕ, _+_, _*_, _/_, _%_, _<_}
 use borrow.Author.Needs.{needs}
 use Rattle.digest.proofs.packed.Statement.{statement}
 use Rattle.digest.proofs.packed.Tie as tie

@@ -1,5 +1,4 @@
 use borrow.Author.Tests.{lt-ltb, le-ltb, eq-eqb, ne-eqb}
-use native.Mathlib.Omega.{arith}
 use Rattle.oam.proofs.tested.Statement.{statement}
 use Rattle.oam.proofs.tested.Tie as tie
 

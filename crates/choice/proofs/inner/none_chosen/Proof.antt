@@ -4,7 +4,7 @@ use Rattle.choice.specs.declared.Chosen.{Chosen}
 use Rattle.choice.specs.declared.VisibleSprite.{VisibleSprite}
 use mathlib.Core.List.{List}
 use mathlib.Core.Bool.{false}
-use mathlib.Core.Path.{_≡_, ap}
+use mathlib.Core.Path.{ap}
 use borrow.Author.Needs.{needs}
 use Rattle.choice.proofs.inner.none_chosen.Statement.{statement}
 use Rattle.choice.proofs.inner.none_chosen.Tie as tie

@@ -1,6 +1,6 @@
 use Rattle.oam.proofs.Fair.{is-last}
 use Rattle.oam.specs.Sprites.{sizesOf}
-use mathlib.Core.Path.{_≡_, _∙_}
+use mathlib.Core.Path.{_∙_}
 use borrow.Author.Needs.{needs}
 use Rattle.oam.proofs.inner.sizes_of.Statement.{statement}
 use Rattle.oam.proofs.inner.sizes_of.Tie as tie
