@@ -6,7 +6,8 @@ use mathlib.Core.Bool.{Bool, true, false, cond}
 use mathlib.Core.List.{List, [], _∷_}
 use native.Mathlib.Omega.{arith}
 use lib.Dec.{ltb, eqb}
-use lib.ListN.{length, set, length-set}
+use lib.ListN.{getD, length, set, length-set}
+use lib.Seq.{getD-set-same}
 use borrow.Author.Tests.{lt-ltb, le-ltb, eq-eqb, ne-eqb}
 use Rattle.refusal.specs.Answer.{Answer, value, refused, provided, Outcome, outcome}
 use Rattle.lists.specs.Runs.{run, replies, run-keeps}
@@ -152,3 +153,17 @@ pair-stored x y m s h e =
     ap (λ (o : Machine). wrote y o .left .memory) first
     ∙ ap (λ (o : Machine). o .memory) second
     ∙ (λ i. set (set (m .memory) (d i) x) (n i) y)
+
+-- the mirror: a byte written from 512 on is read at every address from 512 on that is the same mod 32
+pub mirrored : (v b : ℕ) (m : Machine) → Sound m → 512 ≤ m .port .address → 512 ≤ b → b % 32 ≡ m .port .address % 32 →
+    byteOf (run step (dataWrite v ∷ []) m .memory) b ≡ v
+unfolding run
+mirrored v b m s h g e =
+    let a = m .port .address in
+    let stored : wrote v m .left ≡ storeHigh v m =
+    ap (λ (o : Outcome Unit Machine). o .left) (wrote-sound s v) ∙ store-high v m h in
+    let there : byteAt b ≡ byteAt a = simp (le-ltb b 512 g, le-ltb a 512 h) (ap (λ (n : ℕ). 512 + n) e) in
+    let within : byteAt a < length (m .memory) = simp (le-ltb a 512 h) (omega (arith, s .long)) in
+    ap (λ (o : Machine). byteOf (o .memory) b) stored
+    ∙ ap (λ (n : ℕ). getD (set (m .memory) (byteAt a) v) n 0) there
+    ∙ getD-set-same (m .memory) (byteAt a) v 0 within
