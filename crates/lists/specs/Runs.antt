@@ -1,6 +1,5 @@
 -- A machine's run: a list of accesses, one after another.
-use mathlib.Core.Path.{_≡_, refl}
-use mathlib.Core.List.{List, [], _∷_, _++_}
+use mathlib.Core.List.{List, [], _∷_}
 
 module _ {S A : Type 0} (step : A → S → S) where
   -- the machine after them
@@ -18,9 +17,3 @@ module _ {S A : Type 0} (step : A → S → S) where
   unfolding run
   run-keeps P k [] s p = p
   run-keeps P k (a ∷ l) s p = run-keeps P k l (step a s) (k a s p)
-
-  -- accesses after accesses
-  pub run-append : (l m : List A) (s : S) → run (l ++ m) s ≡ run m (run l s)
-  unfolding run
-  run-append [] m s = refl
-  run-append (a ∷ l) m s = run-append l m (step a s)

@@ -1,1 +1,1 @@
-// Laws of lists (specs/): a list by a rule, and the elements at which a test holds. No code.
+// Laws (specs/): a list by a rule, the elements at which a test holds, the run of a machine. No code.

@@ -6,41 +6,40 @@ use mathlib.Core.Bool.{Bool, true, false, _&&_}
 use mathlib.Core.List.{List, [], _∷_}
 use native.Mathlib.Omega.{arith}
 use lib.Dec.{T, leb, leb→le}
+use lib.Ieee.Fits.{and-l, and-r}
 use lib.ListN.{length, getD}
 use Rattle.oam.specs.declared.SpriteSize.{SpriteSize}
 use Rattle.oam.specs.declared.inner.Sizes.{Sizes}
 use Rattle.oam.specs.Sprites.{settings, noSizes, sizesOf, sizeOf, Sized}
 
+abbrev between : ℕ → Bool
+between n = leb 8 n && leb n 64
+
 abbrev fair : SpriteSize → Bool
-fair s = (leb 8 (s .width) && leb (s .width) 64) && (leb 8 (s .height) && leb (s .height) 64)
+fair s = between (s .width) && between (s .height)
 
 abbrev all : List Sizes → Bool
 all [] = true
 all (p ∷ l) = (fair (p .small) && fair (p .large)) && all l
 
-both : (a b : Bool) → T (a && b) → T a × T b
-both true b t = (tt, t)
-both false b t = absurd t
-
 is-fair : (s : SpriteSize) → T (fair s) → Sized s
 is-fair s t =
-    let f = both (leb 8 (s .width) && leb (s .width) 64) (leb 8 (s .height) && leb (s .height) 64) t in
-    let w = both (leb 8 (s .width)) (leb (s .width) 64) (f .0) in
-    let h = both (leb 8 (s .height)) (leb (s .height) 64) (f .1) in
+    let w = and-l (between (s .width)) (between (s .height)) t in
+    let h = and-r (between (s .width)) (between (s .height)) t in
     record {
-      wide = leb→le 8 (s .width) (w .0);
-      narrow = leb→le (s .width) 64 (w .1);
-      high = leb→le 8 (s .height) (h .0);
-      low = leb→le (s .height) 64 (h .1);
+      wide = leb→le 8 (s .width) (and-l (leb 8 (s .width)) (leb (s .width) 64) w);
+      narrow = leb→le (s .width) 64 (and-r (leb 8 (s .width)) (leb (s .width) 64) w);
+      high = leb→le 8 (s .height) (and-l (leb 8 (s .height)) (leb (s .height) 64) h);
+      low = leb→le (s .height) 64 (and-r (leb 8 (s .height)) (leb (s .height) 64) h);
     }
 
 at : (l : List Sizes) → T (all l) → (i : ℕ) → i < length l →
     Sized (getD l i noSizes .small) × Sized (getD l i noSizes .large)
 at [] t i h = absurd (omega arith)
 at (p ∷ l) t zero h =
-    let f = both (fair (p .small)) (fair (p .large)) (both (fair (p .small) && fair (p .large)) (all l) t .0) in
-    (is-fair (p .small) (f .0), is-fair (p .large) (f .1))
-at (p ∷ l) t (suc i) h = at l (both (fair (p .small) && fair (p .large)) (all l) t .1) i (omega arith)
+    let f = and-l (fair (p .small) && fair (p .large)) (all l) t in
+    (is-fair (p .small) (and-l (fair (p .small)) (fair (p .large)) f), is-fair (p .large) (and-r (fair (p .small)) (fair (p .large)) f))
+at (p ∷ l) t (suc i) h = at l (and-r (fair (p .small) && fair (p .large)) (all l) t) i (omega arith)
 
 pub size-fair : (objsel : ℕ) (large : Bool) → objsel < 256 → Sized (sizeOf objsel large)
 unfolding sizeOf sizesOf

@@ -2,23 +2,24 @@
 use Prim.Native.Nat.{ℕ, _≤_, _<_}
 use mathlib.Core.Path.{_≡_, _∙_}
 use native.Mathlib.Omega.{arith}
+use lib.Dec.{lit<}
 use lib.IntN.{pos, _-ℤ_}
 use borrow.Author.Tests.{lt-ltb, le-ltb}
 use mir.Syntax.{w16}
 use mir.Val.{SFits, toZ, ofZ}
-use mir.ValLaws.{toZ-ofZ, toZ-pos}
-use Rattle.signed.proofs.Signed.{difference-small}
+use mir.ValLaws.{toZ-pos}
+use Rattle.signed.proofs.Signed.{difference-fits, difference-read}
 use Rattle.oam.specs.Sprites.{signed9}
 
 pub low : (n : ℕ) → n < 256 → toZ w16 n ≡ signed9 n
 low n h = simp (lt-ltb n 256 h) (toZ-pos w16 n (omega arith))
 
 module _ (n : ℕ) (g : 256 ≤ n) (h : n < 512) where
-  at-high : toZ w16 n -ℤ pos 512 ≡ pos n -ℤ pos 512
-  at-high = rw (toZ-pos w16 n (omega arith))
+  small : n < 32768
+  small = omega arith
 
   pub high-fits : SFits w16 (toZ w16 n -ℤ pos 512)
-  high-fits = rw at-high (record { sfits = difference-small n 512 32768 (omega arith) (omega arith) })
+  high-fits = rw (toZ-pos w16 n small) (difference-fits w16 n 512 small (lit< tt))
 
   pub high : toZ w16 (ofZ w16 (toZ w16 n -ℤ pos 512)) ≡ signed9 n
-  high = toZ-ofZ w16 (toZ w16 n -ℤ pos 512) high-fits ∙ at-high ∙ simp (le-ltb n 256 g)
+  high = difference-read w16 n 512 small (lit< tt) ∙ simp (le-ltb n 256 g)

@@ -1,7 +1,7 @@
 -- Signed numbers as the machine has them, once over the width: a result read back, and the difference of two unsigned
 -- numbers.
 use Prim.Native.Nat.{ℕ, zero, suc, _-_, _^_, _<_}
-use mathlib.Core.Path.{_≡_, ap, _∙_}
+use mathlib.Core.Path.{_≡_, refl, ap, _∙_}
 use mathlib.Core.Bool.{Bool, true, false, cond}
 use native.Mathlib.Omega.{arith}
 use lib.Dec.{ltb}
@@ -10,7 +10,8 @@ use lib.Signed.{mag}
 use mir.Syntax.{Width, w16, w32}
 use mir.Val.{SFits, toZ, ofZ, hbits}
 use mir.ValLaws.{toZ-ofZ, toZ-pos}
-use mir.Facts.{sfits-widen}
+use mir.Facts.{fits-ofZ, sfits-toZ, sfits-widen}
+use Rattle.signed.specs.Remainder.{remainder}
 
 pick-small : (t : Bool) (x y : ℤ) (k : ℕ) → mag x < k → mag y < k → mag (cond t x y) < k
 pick-small true x y k p q = p
@@ -37,6 +38,19 @@ module _ (w : Width) (a b : ℕ) (p : a < 2 ^ hbits w) (q : b < 2 ^ hbits w) whe
   pub difference-read : toZ w (ofZ w (toZ w a -ℤ toZ w b)) ≡ pos a -ℤ pos b
   difference-read = rw difference (toZ-ofZ w (pos a -ℤ pos b) difference-fits)
 
--- what a 16-bit number is at 32 bits
-pub widened : (z : ℤ) → SFits w16 z → toZ w32 (ofZ w32 (toZ w16 (ofZ w16 z))) ≡ z
-widened z f = ap (λ (y : ℤ). toZ w32 (ofZ w32 y)) (toZ-ofZ w16 z f) ∙ toZ-ofZ w32 z (sfits-widen tt f)
+-- a number goes to a call by its bits, and the remainder that the call finds is its own
+pub remainder-of : (w : Width) (z : ℤ) (m : ℕ) {r : ℕ} → mag z < 2 ^ hbits w → r ≡ remainder (toZ w (ofZ w z)) m →
+    r ≡ remainder z m
+remainder-of w z m small e = e ∙ ap (λ (y : ℤ). remainder y m) (read-back w {z = z} {y = z} small refl)
+
+-- so where 16 bits became 32 on the way
+module _ (z : ℤ) (small : mag z < 2 ^ hbits w16) where
+  fits : SFits w16 z
+  fits = record { sfits = small }
+
+  pub widens : SFits w32 (toZ w16 (ofZ w16 z))
+  widens = sfits-widen {w = w16} tt (sfits-toZ {w = w16} (fits-ofZ fits))
+
+  pub remainder-widened : (m : ℕ) {r : ℕ} → r ≡ remainder (toZ w32 (ofZ w32 (toZ w16 (ofZ w16 z)))) m → r ≡ remainder z m
+  remainder-widened m e =
+      e ∙ ap (λ (y : ℤ). remainder y m) (toZ-ofZ w32 (toZ w16 (ofZ w16 z)) widens ∙ toZ-ofZ w16 z fits)

@@ -1,15 +1,9 @@
 -- The ways through `in_range`, over the values that its calls return.
 use Prim.Native.Nat.{ℕ, _-_, _<_, _≤_}
-use mathlib.Core.Path.{_≡_, refl, sym, _∙_, ap}
+use mathlib.Core.Path.{_≡_, refl, sym, _∙_}
 use mathlib.Core.Bool.{Bool, true, false, not}
 use native.Mathlib.Omega.{arith}
 use lib.Dec.{ltb, leb}
-use lib.IntN.{ℤ}
-use lib.Signed.{mag}
-use mir.Syntax.{w16}
-use mir.Val.{toZ, ofZ}
-use Rattle.signed.specs.Remainder.{remainder}
-use Rattle.signed.proofs.Signed.{read-back}
 use borrow.Author.Tests.{lt-ltb, le-ltb, leb-true, leb-false}
 use Rattle.oam.specs.declared.Sprite.{Sprite}
 use Rattle.oam.specs.declared.SpriteSize.{SpriteSize}
@@ -33,7 +27,3 @@ module _ (row objsel : ℕ) (interlace : Bool) (s : Sprite) {size : SpriteSize} 
       not p ≡ inRange row objsel interlace s
   unfolding meetsRow
   meets {x} h is-x is-p = rw (← is-size, ← is-lines, ← is-line, ← is-x, lt-ltb line lines h, is-p)
-
--- a sprite's column goes to a call by its bits, and is the number again
-pub nine-of : (z : ℤ) {r : ℕ} → mag z < 32768 → r ≡ remainder (toZ w16 (ofZ w16 z)) 512 → r ≡ remainder z 512
-nine-of z small e = e ∙ ap (λ (y : ℤ). remainder y 512) (read-back w16 {z = z} {y = z} small refl)

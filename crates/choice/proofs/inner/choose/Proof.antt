@@ -24,15 +24,6 @@ abbrev μ-loop : tie.MeasureT-loop
 loop-holds : tie.Need-loop-holds Inv-loop μ-loop
 loop-holds c = (so-far-none _ _ (found-none _ _ _ _ _) (c .blank .ensures), omega arith)
 
-placed-at-requires : tie.Need-placed-at-requires Inv-loop μ-loop
-placed-at-requires c κs = omega arith
-
-add-k : tie.Need-add-k Inv-loop μ-loop
-add-k c = omega arith
-
-loop-less : tie.Need-loop-less Inv-loop μ-loop
-loop-less c = omega arith
-
 -- what `in_range` says of place k of the search
 is-on : (c : tie.After-in-range Inv-loop μ-loop) →
     let a = c .before .before .before .before .before .before .before .args in
@@ -61,24 +52,6 @@ returns c = let a = c .before .before .before .before .before .before .before .b
     (built (now (a .oam)) (a .objsel) (foundTo (now (a .oam)) (a .row) (a .objsel) (start .result) (a .obj-interlace) 128) (foundTo (now (a .oam)) (a .row) (a .objsel) (start .result) (a .obj-interlace) (l .k))
     (first-32 (now (a .oam)) (a .row) (a .objsel) (start .result) (a .obj-interlace) (l .k) less full on)
     (more-than-32 (now (a .oam)) (a .row) (a .objsel) (start .result) (a .obj-interlace) (l .k) less full on) s)
-
-mul-sprites : tie.Need-mul-sprites Inv-loop μ-loop
-mul-sprites c = omega arith
-
-array-set-from-sprites : tie.Need-array-set-from-sprites Inv-loop μ-loop
-array-set-from-sprites c = omega arith
-
-add-count : tie.Need-add-count Inv-loop μ-loop
-add-count c = omega arith
-
-add-tiles : tie.Need-add-tiles Inv-loop μ-loop
-add-tiles c = omega arith
-
-add-k-2 : tie.Need-add-k-2 Inv-loop μ-loop
-add-k-2 c = omega arith
-
-loop-less-2 : tie.Need-loop-less-2 Inv-loop μ-loop
-loop-less-2 c = omega arith
 
 loop-again-2 : tie.Need-loop-again-2 Inv-loop μ-loop
 loop-again-2 c = let a = c .before .before .before .before .before .before .before .before .before .before .args in
@@ -110,18 +83,18 @@ choose-spec =
     (λ c κs. search needs)
     (λ c κs. search needs)
     loop-holds
-    placed-at-requires
     (λ c κs. search needs)
-    add-k
-    loop-less
+    (λ c κs. search needs)
+    (λ c. search needs)
+    (λ c. search needs)
     loop-again
     returns
-    mul-sprites
-    array-set-from-sprites
-    add-count
+    (λ c. search needs)
+    (λ c. search needs)
+    (λ c. search needs)
     (λ c κs. search needs)
-    add-tiles
-    add-k-2
-    loop-less-2
+    (λ c. search needs)
+    (λ c. search needs)
+    (λ c. search needs)
     loop-again-2
     returns-2)

@@ -1,3 +1,4 @@
+use borrow.Author.Needs.{needs}
 use Rattle.sprite_row.proofs.Tiles.{count-none, count-more, byte-le}
 use Rattle.sprite_row.specs.SpriteRow.{countTo}
 use native.Mathlib.Omega.{arith}
@@ -15,20 +16,8 @@ abbrev μ-loop : tie.MeasureT-loop
 loop-holds : tie.Need-loop-holds Inv-loop μ-loop
 loop-holds c = (omega arith, (omega arith, count-none _))
 
-tile-counts-requires : tie.Need-tile-counts-requires Inv-loop μ-loop
-tile-counts-requires c κs = omega arith
-
-cast-sum : tie.Need-cast-sum Inv-loop μ-loop
-cast-sum c = tt
-
 add-sum : tie.Need-add-sum Inv-loop μ-loop
 add-sum c = omega (arith, byte-le (c .tile-counts .result))
-
-add-t : tie.Need-add-t Inv-loop μ-loop
-add-t c = omega arith
-
-loop-less : tie.Need-loop-less Inv-loop μ-loop
-loop-less c = omega arith
 
 loop-again : tie.Need-loop-again Inv-loop μ-loop
 loop-again c = let l = c .before .before .loop in
@@ -46,10 +35,10 @@ count-to-spec =
     Inv-loop
     μ-loop
     loop-holds
-    tile-counts-requires
-    cast-sum
+    (λ c κs. search needs)
+    (λ c. search needs)
     add-sum
-    add-t
-    loop-less
+    (λ c. search needs)
+    (λ c. search needs)
     loop-again
     returns)

@@ -1,4 +1,5 @@
-use Rattle.sprite_row.proofs.Row.{nine-of}
+use mir.Syntax.{w16}
+use Rattle.signed.proofs.Signed.{remainder-of}
 use Rattle.sprite_row.specs.SpriteRow.{countTo}
 use Rattle.oam.specs.declared.SpriteSize.{SpriteSize}
 use native.Mathlib.Omega.{arith}
@@ -12,7 +13,7 @@ returns : tie.Need-returns
 returns c = let b = c .before .before in
     let s = b .before .before in (
       c .count-to .ensures .0
-          ∙ ap₂ (λ (x : ℕ) (z : SpriteSize). countTo x (z .width / 8)) (nine-of (s .before .args .s .x) (b .before .struct-told .given .0 .1) (b .nine-bits .ensures .0)) (s .sprite-size .ensures .0),
+          ∙ ap₂ (λ (x : ℕ) (z : SpriteSize). countTo x (z .width / 8)) (remainder-of w16 (s .before .args .s .x) 512 (b .before .struct-told .given .0 .1) (b .nine-bits .ensures .0)) (s .sprite-size .ensures .0),
       omega (arith, s .sprite-size .ensures .1 .narrow, c .count-to .ensures .1),
     )
 
