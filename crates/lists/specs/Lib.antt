@@ -1,3 +1,4 @@
 pub mod Tab
+pub mod Filling
 pub mod Keep
 pub mod Runs

@@ -1,9 +1,13 @@
 -- A list by a rule.
-use Prim.Native.Nat.{ℕ, zero, suc, _+_}
-use mathlib.Core.Path.{_≡_, refl}
+use Prim.Native.Nat.{ℕ, zero, suc, _+_, _<_}
+use mathlib.Core.Path.{_≡_, refl, sym, ap, _∙_}
 use mathlib.Core.List.{List, [], _∷_, _++_, append-assoc, append-nil}
-use native.Mathlib.Nat.{add-zero, add-suc}
+use mathlib.Core.Logic.{⊎-elim}
+use native.Mathlib.Omega.{arith}
+use native.Mathlib.Nat.{add-zero, add-suc, eq-or-lt-of-le}
 use native.Mathlib.Numerals.{add-one}
+use lib.ListN.{length, getD, length-append, List·getD-append}
+use lib.Seq.{getD-at, ext-getD}
 
 -- f 0, f 1, up to f (n - 1)
 unfoldable pub tab : {A : Type 0} → ℕ → (ℕ → A) → List A
@@ -25,3 +29,30 @@ module _ {A : Type 0} (f : ℕ → A) where
   tab-split k zero = rw (add-zero, append-nil)
   tab-split k (suc j) =
       rw (add-suc k j, tab-split k j) (append-assoc (tab k f) (tab j (λ (i : ℕ). f (k + i))) (f (k + j) ∷ []))
+
+  pub length-tab : (n : ℕ) → length (tab n f) ≡ n
+  unfolding tab
+  length-tab zero = refl
+  length-tab (suc n) = simp (length-append, length-tab n) (omega arith)
+
+  -- its elements are the rule's
+  pub getD-tab : (n i : ℕ) (d : A) → i < n → getD (tab n f) i d ≡ f i
+  unfolding tab
+  getD-tab zero i d h = absurd (omega arith)
+  getD-tab (suc n) i d h =
+      ⊎-elim
+      (λ e. ap (λ (k : ℕ). getD (tab n f ++ (f n ∷ [])) k d) e ∙ (getD-at (tab n f) (f n) [] d n (length-tab n) ∙ ap f (sym e)))
+      (λ b. List·getD-append (tab n f) (f n ∷ []) d i (rw (length-tab n) b) ∙ getD-tab n i d b)
+      (eq-or-lt-of-le {n = i} {m = n} (omega arith))
+
+-- two rules that agree below n give one list
+pub tab-ext : {A : Type 0} (n : ℕ) (f g : ℕ → A) → ((x : ℕ) → x < n → f x ≡ g x) → tab n f ≡ tab n g
+unfolding tab
+tab-ext zero f g h = refl
+tab-ext (suc n) f g h = λ i. tab-ext n f g (λ x b. h x (omega arith)) i ++ (h n (omega arith) i ∷ [])
+
+-- a list of n elements that are the rule's is the list by that rule
+pub by-getD : {A : Type 0} (n : ℕ) (f : ℕ → A) (l : List A) (d : A) → length l ≡ n →
+    ((x : ℕ) → x < n → getD l x d ≡ f x) → l ≡ tab n f
+by-getD n f l d e h =
+    ext-getD d l (tab n f) (e ∙ sym (length-tab f n)) (λ x b. let c : x < n = omega arith in h x c ∙ sym (getD-tab f n x d c))

@@ -19,11 +19,18 @@ abbrev pub voffset : PPURegisters → ℤ
 voffset r = pos (mosaicSize r) -ℤ pos (r .«mosaic_vcounter»)
 
 -- with mosaic on, block = size and offset = size - counter; otherwise 1 and 0
+abbrev pub blockIf : Bool → PPURegisters → ℕ
+blockIf on r = cond on (mosaicSize r) 1
+
+abbrev pub offsetIf : Bool → PPURegisters → ℤ
+offsetIf on r = cond on (voffset r) (pos 0)
+
+-- so for background b
 abbrev pub blockOf : PPURegisters → ℕ → ℕ
-blockOf r b = cond (mosaicOn r b) (mosaicSize r) 1
+blockOf r b = blockIf (mosaicOn r b) r
 
 abbrev pub offsetOf : PPURegisters → ℕ → ℤ
-offsetOf r b = cond (mosaicOn r b) (voffset r) (pos 0)
+offsetOf r b = offsetIf (mosaicOn r b) r
 
 -- a counter above 16 is refused 6
 abbrev pub counted : {A : Type 0} → PPURegisters → Answer A → Answer A

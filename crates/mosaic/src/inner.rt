@@ -3,7 +3,7 @@ use registers::PPURegisters;
 use registers::inner::bit;
 ghost use mathlib.Core.Path.{_≡_};
 ghost use Prim.Native.Nat.{_<_, _≤_};
-ghost use Rattle.mosaic.specs.Mosaic.{mosaicSize, mosaicOn, voffset, blockOf, offsetOf};
+ghost use Rattle.mosaic.specs.Mosaic.{mosaicSize, mosaicOn, voffset, blockIf, offsetIf};
 
 pub fn mosaic_size(r: PPURegisters) -> u8
     ensures { λ n. ⌜ (n ≡ mosaicSize r) × ((0 < n) × (n ≤ 16)) ⌝ }
@@ -27,22 +27,16 @@ pub fn mosaic_voffset(r: PPURegisters) -> i16
     size as i16 - counter as i16
 }
 
-// The mosaic block of background bg.
-pub fn bg_mosaic_block(r: PPURegisters, bg: usize) -> u8
-    requires { ⌜ bg < 4 ⌝ }
-    ensures { λ n. ⌜ (n ≡ blockOf r bg) × ((0 < n) × (n ≤ 16)) ⌝ }
+// The mosaic block of a background whose mosaic is on, or off.
+pub fn block(r: PPURegisters, on: bool) -> u8
+    ensures { λ n. ⌜ (n ≡ blockIf on r) × ((0 < n) × (n ≤ 16)) ⌝ }
 {
-    if bg_mosaic(r, bg) { mosaic_size(r) } else { 1 }
+    if on { mosaic_size(r) } else { 1 }
 }
 
-// The mosaic offset of background bg.
-pub fn bg_mosaic_voffset(r: PPURegisters, bg: usize) -> i16
-    requires { ⌜ bg < 4 ⌝ }
-    ensures { λ n. ⌜ n ≡ offsetOf r bg ⌝ }
+// Its mosaic offset.
+pub fn voffset(r: PPURegisters, on: bool) -> i16
+    ensures { λ n. ⌜ n ≡ offsetIf on r ⌝ }
 {
-    if bg_mosaic(r, bg) {
-        mosaic_voffset(r)
-    } else {
-        0
-    }
+    if on { mosaic_voffset(r) } else { 0 }
 }

@@ -55,7 +55,7 @@ pub fn bg_mosaic_block(r: PPURegisters, bg: usize) -> WordAnswer
     ensures { λ a. ⌜ wordMeans a ≡ ofBackground bg (value (blockOf r bg)) ⌝ }
 {
     if bg < BACKGROUNDS {
-        WordAnswer::Is(inner::bg_mosaic_block(r, bg) as u16)
+        WordAnswer::Is(inner::block(r, inner::bg_mosaic(r, bg)) as u16)
     } else {
         WordAnswer::Refused(Refusal::Argument)
     }
@@ -69,7 +69,7 @@ pub fn bg_mosaic_voffset(r: PPURegisters, bg: usize) -> OffsetAnswer
         return OffsetAnswer::Refused(Refusal::Counter);
     }
     if bg < BACKGROUNDS {
-        OffsetAnswer::Is(inner::bg_mosaic_voffset(r, bg))
+        OffsetAnswer::Is(inner::voffset(r, inner::bg_mosaic(r, bg)))
     } else {
         OffsetAnswer::Refused(Refusal::Argument)
     }

@@ -1,11 +1,11 @@
--- Signed numbers as the machine has them, once over the width: a result read back, and the difference of two unsigned
--- numbers.
-use Prim.Native.Nat.{ℕ, zero, suc, _-_, _^_, _<_}
+-- Signed numbers as the machine has them, once over the width: a result read back, the difference of two unsigned numbers,
+-- and how far a sum is from zero.
+use Prim.Native.Nat.{ℕ, zero, suc, _+_, _-_, _^_, _<_}
 use mathlib.Core.Path.{_≡_, refl, ap, _∙_}
 use mathlib.Core.Bool.{Bool, true, false, cond}
 use native.Mathlib.Omega.{arith}
 use lib.Dec.{ltb}
-use lib.IntN.{ℤ, pos, negsuc, _-ℤ_}
+use lib.IntN.{ℤ, pos, negsuc, negℤ, _+ℤ_, _-ℤ_}
 use lib.Signed.{mag}
 use mir.Syntax.{Width, w16, w32}
 use mir.Val.{SFits, toZ, ofZ, hbits}
@@ -26,6 +26,21 @@ pub difference-small : (a b k : ℕ) → a < k → b < k → mag (pos a -ℤ pos
 difference-small a zero k p q = omega arith
 difference-small a (suc b) k p q =
     pick-small (ltb a (suc b)) (negsuc (suc b - suc a)) (pos (a - suc b)) k (omega arith) (omega arith)
+
+-- a sum is no further from zero than the two are together
+pub sum-small : (x y : ℤ) (j k : ℕ) → mag x < j → mag y < k → mag (x +ℤ y) < j + k
+sum-small (pos a) (pos b) j k p q = omega arith
+sum-small (pos a) (negsuc b) j k p q =
+    pick-small (ltb a (suc b)) (negsuc (suc b - suc a)) (pos (a - suc b)) (j + k) (omega arith) (omega arith)
+sum-small (negsuc a) (pos b) j k p q =
+    pick-small (ltb b (suc a)) (negsuc (suc a - suc b)) (pos (b - suc a)) (j + k) (omega arith) (omega arith)
+sum-small (negsuc a) (negsuc b) j k p q = omega arith
+
+-- a number's opposite is one further at most
+pub opposite-small : (z : ℤ) (k : ℕ) → mag z < k → mag (negℤ z) < k + 1
+opposite-small (pos zero) k p = omega arith
+opposite-small (pos (suc n)) k p = omega arith
+opposite-small (negsuc n) k p = omega arith
 
 module _ (w : Width) (a b : ℕ) (p : a < 2 ^ hbits w) (q : b < 2 ^ hbits w) where
   pub difference : toZ w a -ℤ toZ w b ≡ pos a -ℤ pos b
@@ -51,6 +66,8 @@ module _ (z : ℤ) (small : mag z < 2 ^ hbits w16) where
   pub widens : SFits w32 (toZ w16 (ofZ w16 z))
   widens = sfits-widen {w = w16} tt (sfits-toZ {w = w16} (fits-ofZ fits))
 
+  pub widened : toZ w32 (ofZ w32 (toZ w16 (ofZ w16 z))) ≡ z
+  widened = toZ-ofZ w32 (toZ w16 (ofZ w16 z)) widens ∙ toZ-ofZ w16 z fits
+
   pub remainder-widened : (m : ℕ) {r : ℕ} → r ≡ remainder (toZ w32 (ofZ w32 (toZ w16 (ofZ w16 z)))) m → r ≡ remainder z m
-  remainder-widened m e =
-      e ∙ ap (λ (y : ℤ). remainder y m) (toZ-ofZ w32 (toZ w16 (ofZ w16 z)) widens ∙ toZ-ofZ w16 z fits)
+  remainder-widened m e = e ∙ ap (λ (y : ℤ). remainder y m) widened

@@ -1,0 +1,53 @@
+-- A background: its candidates at each pixel of a row, and its laying.
+use Prim.Native.Nat.{ℕ}
+use mathlib.Core.Bool.{Bool, _&&_}
+use mathlib.Core.List.{List}
+use lib.ListN.{length}
+use lib.Dec.{ltb, leb, eqb}
+use Rattle.refusal.specs.Answer.{Answer, value, provided, _andThen_, Outcome, outcome}
+use Rattle.registers.specs.declared.PPURegisters.{PPURegisters}
+use Rattle.registers.specs.Bits.{bitOf}
+use Rattle.windows.specs.Windows.{bgWindow}
+use Rattle.line.specs.declared.Lines.{Lines}
+use Rattle.line.specs.Pixels.{backgroundOf}
+use Rattle.laying.specs.declared.Shown.{Shown}
+use Rattle.laying.specs.declared.Candidates.{Candidates}
+use Rattle.laying.specs.Laying.{candidatesOf, layLines}
+use Rattle.bg_map.specs.declared.BgParams.{BgParams}
+use Rattle.bg_row.specs.Row.{bgPixel}
+
+-- where the background is shown: its window, and its bits of tmw and tsw
+unfoldable pub shownOf : PPURegisters → BgParams → Shown
+shownOf r p = record {
+  «to_main» = p .«to_main»;
+  «to_sub» = p .«to_sub»;
+  «win_main» = bitOf (r .tmw) (backgroundOf (p .layer));
+  «win_sub» = bitOf (r .tsw) (backgroundOf (p .layer));
+  window = bgWindow r (backgroundOf (p .layer));
+}
+
+-- a row above 223 is refused 1, VRAM of another length 2, colour memory 3, a counter above 16 6; then 7
+abbrev pub bgTests : ℕ → ℕ → ℕ → ℕ → Bool → Answer Unit
+bgTests y words colours counter known =
+    provided (ltb y 224) 1
+    (provided (eqb words 32768) 2
+    (provided (eqb colours 256) 3
+    (provided (leb counter 16) 6
+    (provided known 7 (value tt)))))
+
+-- the layer is a background
+abbrev pub isBackground : BgParams → Bool
+isBackground p = ltb (backgroundOf (p .layer)) 4
+
+-- the candidates at column x of row y
+abbrev pub candidatesAnswer : List ℕ → List ℕ → PPURegisters → BgParams → ℕ → ℕ → Answer Candidates
+candidatesAnswer v g r p x y =
+    bgTests y (length v) (length g) (r .«mosaic_vcounter») (isBackground p && ltb x 256)
+    andThen value (candidatesOf (shownOf r p) x (bgPixel v g r p y x))
+
+-- both lines after row y is laid over them
+abbrev pub lineOutcome : List ℕ → List ℕ → PPURegisters → BgParams → ℕ → Lines → Outcome Unit Lines
+lineOutcome v g r p y lines =
+    outcome (bgTests y (length v) (length g) (r .«mosaic_vcounter») (isBackground p)) tt
+    (layLines (shownOf r p) (bgPixel v g r p y) lines)
+    lines

@@ -1,0 +1,69 @@
+// What the public calls of this crate stand on, for the crates above.
+use bg_map::BgParams;
+use bg_map::inner::source_column;
+use bg_map::inner::source_line;
+use bg_tile::inner::pixel;
+use laying::Candidates;
+use laying::Shown;
+use line::Lines;
+use line::inner::bg_index;
+use registers::PPURegisters;
+use registers::inner::bit;
+ghost use mathlib.Core.Path.{_≡_};
+ghost use Prim.Native.Nat.{_<_};
+ghost use lib.ListN.{length};
+ghost use Rattle.line.specs.Pixels.{backgroundOf};
+ghost use Rattle.laying.specs.Laying.{candidatesOf, layLines};
+ghost use Rattle.bg_row.specs.Row.{Sound, bgPixel};
+ghost use Rattle.background.specs.Background.{shownOf};
+
+// Where the background is shown.
+fn shown(r: PPURegisters, p: BgParams) -> Shown
+    requires { ⌜ backgroundOf (p .layer) < 4 ⌝ }
+    ensures { λ s. ⌜ s ≡ shownOf r p ⌝ }
+{
+    let layer = p.layer;
+    let bg = bg_index(layer);
+    let window = windows::inner::bg_window(r, bg);
+    Shown {
+        to_main: p.to_main,
+        to_sub: p.to_sub,
+        win_main: bit(r.tmw, bg),
+        win_sub: bit(r.tsw, bg),
+        window,
+    }
+}
+
+// The candidates at column x of row y.
+pub fn candidates(
+    vram: &[u16],
+    cgram: &[u16],
+    r: PPURegisters,
+    p: BgParams,
+    x: usize,
+    y: usize,
+) -> Candidates
+    requires { ⌜ Sound (length (now cgram)) p y × (x < 256) ⌝ }
+    ensures { λ c. ⌜ c ≡ candidatesOf (shownOf r p) x (bgPixel (now (vram .entry)) (now (cgram .entry)) r p y x) ⌝ }
+{
+    let px = source_column(r, p, x);
+    let py = source_line(r, p, y);
+    let c = pixel(vram, cgram, p, r.direct_color(), px, py);
+    laying::on_screens(c, shown(r, p), x)
+}
+
+// Both lines after the background is laid.
+pub fn lay(
+    lines: Lines,
+    vram: &[u16],
+    cgram: &[u16],
+    r: PPURegisters,
+    p: BgParams,
+    y: usize,
+) -> Lines
+    requires { ⌜ Sound (length (now cgram)) p y ⌝ }
+    ensures { λ o. ⌜ o ≡ layLines (shownOf r p) (bgPixel (now (vram .entry)) (now (cgram .entry)) r p y) lines ⌝ }
+{
+    let c = bg_row::inner::row(vram, cgram, r, p, y);
+    laying::lay(lines, c, shown(r, p))
+}

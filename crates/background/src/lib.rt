@@ -1,0 +1,105 @@
+// A background's candidates at a column of a row, and its laying over both lines. Follows
+// renderer.rs, with its names.
+pub mod inner;
+
+use bg_map::BgParams;
+use laying::Candidates;
+use line::Lines;
+use line::inner::bg_index;
+use refusal::Refusal;
+use refusal::Verdict;
+use registers::PPURegisters;
+use registers::constants::BACKGROUNDS;
+use registers::constants::LARGEST_COUNTER;
+use registers::constants::SCREEN_HEIGHT;
+use registers::constants::SCREEN_WIDTH;
+use tiles::inner::VRAM_WORDS;
+ghost use mathlib.Core.Path.{_≡_};
+ghost use mathlib.Core.Bool.{true};
+ghost use Prim.Native.Nat.{_<_};
+ghost use Rattle.refusal.specs.Verdicts.{verdictMeans, Passed};
+ghost use Rattle.background.specs.Background.{bgTests, candidatesAnswer, lineOutcome};
+ghost use Rattle.background.specs.Answers.{candidatesMean, linesMean};
+
+// The words of colour memory.
+pub const COLOUR_WORDS: usize = 256;
+
+pub enum CandidatesAnswer {
+    Is(Candidates),
+    Refused(Refusal),
+}
+
+// The verdict on a call, and the lines that it leaves: on a refusal those that came.
+pub struct LinesAnswer {
+    pub verdict: Verdict,
+    pub lines: Lines,
+}
+
+// The tests of both calls; `known` says that the background, and the column, are in their range.
+fn tested(y: usize, words: usize, colours: usize, counter: u8, known: bool) -> Verdict
+    ensures { λ r. ⌜ (verdictMeans r ≡ bgTests y words colours counter known) × (Passed r → (y < 224) × ((colours ≡ 256) × (known ≡ true))) ⌝ }
+{
+    if y >= SCREEN_HEIGHT {
+        return Verdict::Refused(Refusal::Row);
+    }
+    if words != VRAM_WORDS {
+        return Verdict::Refused(Refusal::Vram);
+    }
+    if colours != COLOUR_WORDS {
+        return Verdict::Refused(Refusal::Colour);
+    }
+    if counter > LARGEST_COUNTER {
+        return Verdict::Refused(Refusal::Counter);
+    }
+    if known {
+        return Verdict::Fine;
+    }
+    Verdict::Refused(Refusal::Argument)
+}
+
+// The candidates of a background at column x of row y, on both screens.
+pub fn bg_candidates(
+    vram: &[u16],
+    cgram: &[u16],
+    r: PPURegisters,
+    p: BgParams,
+    x: usize,
+    y: usize,
+) -> CandidatesAnswer
+    ensures { λ a. ⌜ candidatesMean a ≡ candidatesAnswer (now (vram .entry)) (now (cgram .entry)) r p x y ⌝ }
+{
+    let layer = p.layer;
+    let known = (bg_index(layer) < BACKGROUNDS) & (x < SCREEN_WIDTH);
+    match tested(y, vram.len(), cgram.len(), r.mosaic_vcounter, known) {
+        Verdict::Fine => CandidatesAnswer::Is(inner::candidates(vram, cgram, r, p, x, y)),
+        Verdict::Refused(n) => CandidatesAnswer::Refused(n),
+    }
+}
+
+// Both lines after a background's row y is laid over them.
+pub fn render_bg_scanline(
+    lines: Lines,
+    vram: &[u16],
+    cgram: &[u16],
+    r: PPURegisters,
+    p: BgParams,
+    y: usize,
+) -> LinesAnswer
+    ensures { λ a. ⌜ linesMean a ≡ lineOutcome (now (vram .entry)) (now (cgram .entry)) r p y lines ⌝ }
+{
+    let layer = p.layer;
+    let known = bg_index(layer) < BACKGROUNDS;
+    match tested(y, vram.len(), cgram.len(), r.mosaic_vcounter, known) {
+        Verdict::Fine => {
+            let laid = inner::lay(lines, vram, cgram, r, p, y);
+            LinesAnswer {
+                verdict: Verdict::Fine,
+                lines: laid,
+            }
+        }
+        Verdict::Refused(n) => LinesAnswer {
+            verdict: Verdict::Refused(n),
+            lines,
+        },
+    }
+}

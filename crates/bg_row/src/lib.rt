@@ -1,0 +1,2 @@
+// A background's row: its pixels at the 256 columns. Follows renderer.rs.
+pub mod inner;

@@ -1,0 +1,182 @@
+// What the crates above ask of a background's tiles.
+use crate::Character;
+use bg_map::BgParams;
+use line::Candidate;
+use line::LinePixel;
+use line::Priority;
+use line::inner::bg_index;
+use tiles::BitDepth;
+ghost use mathlib.Core.Path.{_≡_};
+ghost use mathlib.Core.Bool.{_&&_};
+ghost use Prim.Native.Nat.{_<_, _≤_};
+ghost use lib.ListN.{length};
+ghost use Rattle.line.specs.Pixels.{backgroundOf};
+ghost use Rattle.bg_map.specs.Source.{extentOf};
+ghost use Rattle.bg_tile.specs.Tile.{mirrored, fineOf, characterWord, priorityOf, coloursOf, startOf, paletteOf, isEight, colourIn, pixelAt};
+ghost use Rattle.bg_tile.specs.Characters.{characterAt, cellIn};
+
+// A place below `side`, mirrored where a flip says so.
+fn mirror(at: usize, side: usize, flip: bool) -> usize
+    requires { ⌜ at < side ⌝ }
+    ensures { λ r. ⌜ (r ≡ mirrored at side flip) × (r < side) ⌝ }
+{
+    if flip { side - 1 - at } else { at }
+}
+
+// The place in its tile of a place of the map, along one axis.
+fn fine(at: usize, tile16: bool, flip: bool) -> usize
+    ensures { λ r. ⌜ (r ≡ fineOf at tile16 flip) × (r < 16) ⌝ }
+{
+    if tile16 {
+        mirror(at % 16, 16, flip)
+    } else {
+        mirror(at % 8, 8, flip)
+    }
+}
+
+// The word address of the character at place (fx, fy) of a tile.
+fn character_word(base: u16, tile: u16, fx: usize, fy: usize, words: usize) -> usize
+    requires { ⌜ (fx < 16) × ((fy < 16) × (words ≤ 32)) ⌝ }
+    ensures { λ r. ⌜ r ≡ characterWord base tile fx fy words ⌝ }
+{
+    base as usize + (tile as usize + fx / 8 + fy / 8 * 16) % 1024 * words
+}
+
+// The priority of an entry, by its bit 13.
+fn priority(p: BgParams, high: bool) -> Priority
+    ensures { λ r. ⌜ r ≡ priorityOf p high ⌝ }
+{
+    if high { p.z_high } else { p.z_low }
+}
+
+// The character row that holds pixel (px, py) of the map.
+pub fn character(vram: &[u16], p: BgParams, px: usize, py: usize) -> Character
+    requires { ⌜ (px < extentOf (p .w64) (p .tile16)) × (py < extentOf (p .h64) (p .tile16)) ⌝ }
+    ensures { λ r. ⌜ (r ≡ characterAt (now (vram .entry)) p px py) × ((r .row < 8) × (r .palette < 8)) ⌝ }
+{
+    let entry = bg_map::inner::entry_at(vram, p, px, py);
+    let fx = fine(px, p.tile16, entry.flip_x);
+    let fy = fine(py, p.tile16, entry.flip_y);
+    let bpp = p.bpp;
+    let words = bpp.tile_words();
+    let base = character_word(p.tiledata_base, entry.tile, fx, fy, words);
+    let z = priority(p, entry.high);
+    Character {
+        base,
+        row: fy % 8,
+        flip_x: entry.flip_x,
+        palette: entry.palette,
+        z,
+    }
+}
+
+// How many colours a tile has.
+fn colors(bpp: BitDepth) -> usize
+    ensures { λ r. ⌜ r ≡ coloursOf bpp ⌝ }
+{
+    match bpp {
+        BitDepth::Two => 4,
+        BitDepth::Four => 16,
+        BitDepth::Eight => 256,
+    }
+}
+
+// Where the colours of background bg's palette n begin.
+fn palette_start(bpp: BitDepth, own: bool, bg: usize, n: u8) -> usize
+    requires { ⌜ (bg < 4) × (n < 8) ⌝ }
+    ensures { λ r. ⌜ r ≡ startOf bpp own bg n ⌝ }
+{
+    match bpp {
+        BitDepth::Two => {
+            if own {
+                n as usize * 4 + 32 * bg
+            } else {
+                n as usize * 4
+            }
+        }
+        BitDepth::Four => n as usize * 16,
+        BitDepth::Eight => 0,
+    }
+}
+
+// A tile's colours, a part of colour memory.
+pub fn palette<'a>(cgram: &'a [u16], p: BgParams, n: u8) -> &'a [u16]
+    requires { ⌜ (length (now cgram) ≡ 256) × ((backgroundOf (p .layer) < 4) × (n < 8)) ⌝ }
+    ensures { λ r. ⌜ now r ≡ paletteOf (now (cgram .entry)) p n ⌝ }
+{
+    let bpp = p.bpp;
+    let layer = p.layer;
+    let start = palette_start(bpp, p.own_palettes, bg_index(layer), n);
+    let end = start + colors(bpp);
+    &cgram[start..end]
+}
+
+// Is direct colour shown at this depth?
+pub fn is_direct(bpp: BitDepth, direct: bool) -> bool
+    ensures { λ r. ⌜ r ≡ isEight bpp && direct ⌝ }
+{
+    match bpp {
+        BitDepth::Two => false,
+        BitDepth::Four => false,
+        BitDepth::Eight => direct,
+    }
+}
+
+// The colour of an index: direct, or among the tile's colours.
+fn color(colors: &[u16], direct: bool, palette: u8, index: u8) -> u16
+    requires { ⌜ index < length (now colors) ⌝ }
+    ensures { λ r. ⌜ r ≡ colourIn (now (colors .entry)) direct palette index ⌝ }
+{
+    if direct {
+        return colour::direct_color(index, palette);
+    }
+    let at = index as usize;
+    colors[at]
+}
+
+// Pixel k of a character row whose tile has these colours.
+pub fn cell(
+    vram: &[u16],
+    colors: &[u16],
+    p: BgParams,
+    direct: bool,
+    t: Character,
+    k: usize,
+) -> Candidate
+    requires { ⌜ (length (now colors) ≡ coloursOf (p .bpp)) × ((t .row < 8) × (k < 8)) ⌝ }
+    ensures { λ r. ⌜ r ≡ cellIn (now (vram .entry)) (now (colors .entry)) p direct t k ⌝ }
+{
+    let bpp = p.bpp;
+    let layer = p.layer;
+    let z = t.z;
+    let index = tiles::inner::color_index(vram, bpp, t.base, mirror(k, 8, t.flip_x), t.row);
+    let color = color(colors, direct, t.palette, index);
+    let pixel = LinePixel {
+        color,
+        z,
+        layer,
+        obj_math: false,
+    };
+    Candidate {
+        opaque: index != 0,
+        pixel,
+    }
+}
+
+// The pixel (px, py) of the map.
+pub fn pixel(
+    vram: &[u16],
+    cgram: &[u16],
+    p: BgParams,
+    direct: bool,
+    px: usize,
+    py: usize,
+) -> Candidate
+    requires { ⌜ ((length (now cgram) ≡ 256) × (backgroundOf (p .layer) < 4)) × ((px < extentOf (p .w64) (p .tile16)) × (py < extentOf (p .h64) (p .tile16))) ⌝ }
+    ensures { λ r. ⌜ r ≡ pixelAt (now (vram .entry)) (now (cgram .entry)) p direct px py ⌝ }
+{
+    let bpp = p.bpp;
+    let t = character(vram, p, px / 8 * 8, py);
+    let colors = palette(cgram, p, t.palette);
+    cell(vram, colors, p, is_direct(bpp, direct), t, px % 8)
+}

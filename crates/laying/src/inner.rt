@@ -1,0 +1,81 @@
+// What the public calls of this crate stand on, one screen at a time.
+use line::Candidate;
+use line::LinePixel;
+use window::Window;
+ghost use mathlib.Core.Path.{_≡_};
+ghost use mathlib.Core.Bool.{false, _&&_, not};
+ghost use lib.ListN.{getD};
+ghost use Rattle.lists.specs.Tab.{tab};
+ghost use Rattle.window.specs.Window.{masked};
+ghost use Rattle.laying.specs.Laying.{onScreen, marked, rowOf, layLine};
+
+// The candidate of a layer that has c, where it is shown.
+pub fn on_screen(c: Candidate, shown: bool) -> Candidate
+    ensures { λ r. ⌜ r ≡ onScreen shown c ⌝ }
+{
+    if c.opaque & shown {
+        return c;
+    }
+    let pixel = LinePixel::backdrop(0);
+    Candidate {
+        opaque: false,
+        pixel,
+    }
+}
+
+// The window's mask over the columns, made only where it is on.
+pub fn mask(w: Window, on: bool) -> [bool; 256]
+    ensures { λ r. ⌜ r ≡ tab 256 (λ x. on && masked w x) ⌝ }
+{
+    let mut out = [false; 256];
+    if !on {
+        return out;
+    }
+    for x in 0..256 {
+        out[x] = w.masked(x);
+    }
+    out
+}
+
+// A candidate whose opaque mark falls where a mask bars it.
+fn unless(c: Candidate, barred: bool) -> Candidate
+    ensures { λ r. ⌜ r ≡ marked (not barred) c ⌝ }
+{
+    let pixel = c.pixel;
+    Candidate {
+        opaque: c.opaque & !barred,
+        pixel,
+    }
+}
+
+// A line after a row is laid, but for the columns that the mask bars, where it does.
+fn lay_line(
+    line: [LinePixel; 256],
+    row: [Candidate; 256],
+    win: bool,
+    mask: [bool; 256],
+) -> [LinePixel; 256]
+    ensures { λ r. ⌜ r ≡ layLine (λ x. marked (not (win && getD mask x false)) (rowOf row x)) line ⌝ }
+{
+    let mut out = line;
+    for x in 0..256 {
+        out[x] = line::deposit(out[x], unless(row[x], win & mask[x]));
+    }
+    out
+}
+
+// The line of a screen after a row is laid there, if the screen lights it.
+pub fn lay_screen(
+    line: [LinePixel; 256],
+    row: [Candidate; 256],
+    lit: bool,
+    win: bool,
+    mask: [bool; 256],
+) -> [LinePixel; 256]
+    ensures { λ r. ⌜ r ≡ layLine (λ x. onScreen (lit && not (win && getD mask x false)) (rowOf row x)) line ⌝ }
+{
+    if lit {
+        return lay_line(line, row, win, mask);
+    }
+    line
+}

@@ -1,0 +1,46 @@
+// A layer's candidates on both screens, and their laying over both lines. Follows renderer.rs.
+pub mod inner;
+
+use line::Candidate;
+use line::Lines;
+use window::Window;
+ghost use mathlib.Core.Path.{_≡_};
+ghost use Rattle.laying.specs.Laying.{candidatesOf, rowOf, layLines};
+
+// Where a layer is shown: the screens that light it (tm, ts), those that its window bars (tmw, tsw),
+// and the window.
+pub struct Shown {
+    pub to_main: bool,
+    pub to_sub: bool,
+    pub win_main: bool,
+    pub win_sub: bool,
+    pub window: Window,
+}
+
+// A layer's candidates at one pixel, on the main screen and on the sub screen.
+pub struct Candidates {
+    pub main: Candidate,
+    pub sub: Candidate,
+}
+
+// The candidates at column x of a layer that has c there.
+pub fn on_screens(c: Candidate, s: Shown, x: usize) -> Candidates
+    ensures { λ r. ⌜ r ≡ candidatesOf s x c ⌝ }
+{
+    let masked = s.window.masked(x);
+    let main = inner::on_screen(c, s.to_main & !(s.win_main & masked));
+    let sub = inner::on_screen(c, s.to_sub & !(s.win_sub & masked));
+    Candidates { main, sub }
+}
+
+// Both lines after a layer is laid that has `row` at its 256 columns.
+pub fn lay(lines: Lines, row: [Candidate; 256], s: Shown) -> Lines
+    ensures { λ r. ⌜ r ≡ layLines s (rowOf row) lines ⌝ }
+{
+    let over = lines.main;
+    let under = lines.sub;
+    let mask = inner::mask(s.window, s.win_main | s.win_sub);
+    let main = inner::lay_screen(over, row, s.to_main, s.win_main, mask);
+    let sub = inner::lay_screen(under, row, s.to_sub, s.win_sub, mask);
+    Lines { main, sub }
+}
