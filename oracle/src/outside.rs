@@ -4,7 +4,7 @@
 
 use rust_ppu::oam::OAM;
 use rust_ppu::ppu::PPU;
-use rust_ppu::rendering::renderer::Renderer;
+use rust_ppu::rendering::renderer::{BgParams, BitDepth, Layer, Priority, Renderer};
 use rust_ppu::vram::VRAM;
 use std::fmt::Debug;
 use std::panic::{self, AssertUnwindSafe};
@@ -19,7 +19,7 @@ fn line<T: Debug>(case: &str, run: impl FnOnce() -> T) -> String {
 
 pub fn list() -> String {
     panic::set_hook(Box::new(|_| ()));
-    rows() + &backgrounds() + &windows() + &sprites() + &tiles() + &rest()
+    rows() + &backgrounds() + &lines() + &windows() + &sprites() + &tiles() + &rest()
 }
 
 fn rows() -> String {
@@ -67,6 +67,50 @@ fn backgrounds() -> String {
     out += &line("bg_mosaic background 8, mosaic of all but BG1", || {
         ppu.regs.bg_mosaic(8)
     });
+    out
+}
+
+/// The parameters of a background of 8bpp from colour 32 on: its last colours lie past the end.
+fn params(layer: Layer, palette_base: u8) -> BgParams {
+    BgParams {
+        tilemap_base: 0,
+        tiledata_base: 0,
+        scroll_x: 0,
+        scroll_y: 0,
+        bpp: BitDepth::Eight,
+        palette_base,
+        w64: false,
+        h64: false,
+        tile16: false,
+        mosaic: true,
+        z_low: Priority::new(5),
+        z_high: Priority::new(11),
+        layer,
+        to_main: true,
+        to_sub: false,
+    }
+}
+
+/// Every index is 255.
+fn lines() -> String {
+    let mut ppu = PPU::new();
+    ppu.vram.memory.fill(0xffff);
+    let layer = match Layer::from_bg(4) {
+        Layer::Bg4 => "Bg4",
+        _ => "another",
+    };
+    let mut out = line("from_bg background 4", || layer);
+    for (case, layer, base, y, counter) in [
+        ("row 224", Layer::Bg1, 0, 224, 0),
+        ("counter 17", Layer::Bg1, 0, 0, 17),
+        ("the layer of sprites", Layer::Obj, 0, 0, 0),
+        ("8bpp from colour 32 on", Layer::Bg1, 32, 0, 0),
+    ] {
+        ppu.mosaic_vcounter = counter;
+        out += &line(&format!("render_bg_scanline {case}"), || {
+            Renderer::new().render_bg_scanline(&ppu, y, &params(layer, base))
+        });
+    }
     out
 }
 

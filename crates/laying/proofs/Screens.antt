@@ -43,14 +43,6 @@ same h false t p = refl
 pub laid-as-shown : (h : LinePixel) (t : Bool) (c : Candidate) → deposited h (marked t c) ≡ deposited h (onScreen t c)
 laid-as-shown h t c = same h (c .opaque) t (c .pixel)
 
--- what is not shown leaves the held pixel
-kept : (h : LinePixel) (o : Bool) (p : LinePixel) → h ≡ deposited h (onScreen false (record { opaque = o; pixel = p }))
-kept h true p = refl
-kept h false p = refl
-
-pub not-shown : (h : LinePixel) (c : Candidate) → h ≡ deposited h (onScreen false c)
-not-shown h c = kept h (c .opaque) (c .pixel)
-
 -- a line, by the mask that is made for both screens
 pub by-mask : (lit win on : Bool) (w : Window) (row : List Candidate) (line : List LinePixel) {mask : List Bool} →
     mask ≡ tab 256 (λ (x : ℕ). on && masked w x) → ((m : Bool) → win && (on && m) ≡ win && m) →

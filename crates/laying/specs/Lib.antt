@@ -1,2 +1,3 @@
 pub mod Laying
+pub mod Unlit
 pub mod Order

@@ -1,9 +1,10 @@
 use Prim.Native.Nat.{ℕ}
-use Rattle.laying.proofs.Screens.{laid-as-shown, not-shown}
+use Rattle.laying.specs.Unlit.{unlit-line}
+use Rattle.laying.proofs.Screens.{laid-as-shown}
 use Rattle.laying.specs.Laying.{onScreen, rowOf}
 use Rattle.line.specs.Pixels.{noPixel, deposited}
 use Rattle.lists.specs.Filling.{long-field}
-use Rattle.lists.specs.Tab.{tab-ext, by-getD}
+use Rattle.lists.specs.Tab.{tab-ext}
 use lib.ListN.{getD}
 use mathlib.Core.Bool.{Bool, false, _&&_, not}
 use mathlib.Core.Path.{sym, ap, _∙_}
@@ -15,7 +16,9 @@ returns : tie.Need-returns
 returns c = let a = c .before .before .args in let t : ℕ → Bool = λ x. not (a .win && getD (a .mask) x false) in c .lay-line .ensures ∙ tab-ext 256 _ _ (λ x h. laid-as-shown (getD (a .line) x noPixel) (t x) (rowOf (a .row) x) ∙ ap (λ (b : Bool). deposited (getD (a .line) x noPixel) (onScreen (b && t x) (rowOf (a .row) x))) (sym (c .before .if1 .taken)))
 
 returns-2 : tie.Need-returns-2
-returns-2 c = let a = c .before .args in let t : ℕ → Bool = λ x. not (a .win && getD (a .mask) x false) in by-getD 256 _ _ noPixel (search (needs, long-field)) (λ x h. not-shown (getD (a .line) x noPixel) (rowOf (a .row) x) ∙ ap (λ (b : Bool). deposited (getD (a .line) x noPixel) (onScreen (b && t x) (rowOf (a .row) x))) (sym (c .if1 .left)))
+returns-2 c =
+    let a = c .before .args in
+    unlit-line (λ x. a .win && getD (a .mask) x false) (rowOf (a .row)) (a .line) (c .if1 .left) (search (needs, long-field))
 
 pub lay-screen-spec : {M : Type 1} → statement M
 lay-screen-spec = tie.close (tie.spec (λ c κs. search needs) returns returns-2)
