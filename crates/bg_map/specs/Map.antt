@@ -9,9 +9,12 @@ use Rattle.bg_map.specs.declared.MapEntry.{MapEntry}
 use Rattle.bg_map.specs.Source.{sideOf}
 
 -- screen = (row/32) x (2 if wide, else 1) + column/32
+abbrev pub screensWide : Bool → ℕ
+screensWide true = 2
+screensWide false = 1
+
 abbrev pub screenOf : Bool → ℕ → ℕ → ℕ
-screenOf true col row = row / 32 * 2 + col / 32
-screenOf false col row = row / 32 * 1 + col / 32
+screenOf wide col row = row / 32 * screensWide wide + col / 32
 
 -- map word: base + screen x 1,024 + (row mod 32) x 32 + column mod 32; it is read mod 32,768
 abbrev pub mapWord : ℕ → Bool → ℕ → ℕ → ℕ

@@ -6,7 +6,8 @@ use signed::inner::rem_euclid;
 ghost use mathlib.Core.Path.{_≡_};
 ghost use Prim.Native.Nat.{_/_, _<_, _≤_};
 ghost use Rattle.bg_map.specs.Source.{sideOf, extentOf, sourceColumn, sourceLine};
-ghost use Rattle.bg_map.specs.Map.{screenOf, mapWord, entryAt};
+ghost use Rattle.bg_map.specs.Map.{screensWide};
+ghost use Rattle.bg_map.specs.Rows.{mapRow, entryIn};
 
 // The tile side.
 fn side(tile16: bool) -> usize
@@ -54,33 +55,28 @@ fn tile_of(at: usize, tile16: bool) -> usize
     if tile16 { at / 16 } else { at / 8 }
 }
 
-// The map's screen of 32 by 32 tiles that holds a tile.
-fn screen(wide: bool, col: usize, row: usize) -> usize
-    requires { ⌜ (col < 64) × (row < 64) ⌝ }
-    ensures { λ r. ⌜ (r ≡ screenOf wide col row) × (r < 4) ⌝ }
+// How many screens of 32 by 32 tiles a map has side by side.
+fn screens_wide(w64: bool) -> usize
+    ensures { λ r. ⌜ (r ≡ screensWide w64) × (r ≤ 2) ⌝ }
 {
-    if wide {
-        row / 32 * 2 + col / 32
-    } else {
-        row / 32 * 1 + col / 32
-    }
+    if w64 { 2 } else { 1 }
 }
 
-// The address of a tile's map word.
-fn map_word(base: u16, wide: bool, col: usize, row: usize) -> usize
-    requires { ⌜ (col < 64) × (row < 64) ⌝ }
-    ensures { λ r. ⌜ r ≡ mapWord base wide col row ⌝ }
+// The address of the first map word of the row of tiles that holds line py of the map.
+pub fn map_row(p: BgParams, py: usize) -> usize
+    requires { ⌜ py < extentOf (p .h64) (p .tile16) ⌝ }
+    ensures { λ r. ⌜ (r ≡ mapRow p py) × (r < 131072) ⌝ }
 {
-    base as usize + screen(wide, col, row) * 1024 + row % 32 * 32 + col % 32
-}
-
-// The entry of the tile that holds pixel (px, py) of the map.
-pub fn entry_at(vram: &[u16], p: BgParams, px: usize, py: usize) -> MapEntry
-    requires { ⌜ (px < extentOf (p .w64) (p .tile16)) × (py < extentOf (p .h64) (p .tile16)) ⌝ }
-    ensures { λ r. ⌜ (r ≡ entryAt (now (vram .entry)) p px py) × (r .palette < 8) ⌝ }
-{
-    let col = tile_of(px, p.tile16);
     let row = tile_of(py, p.tile16);
-    let at = map_word(p.tilemap_base, p.w64, col, row);
-    crate::map_entry(tiles::inner::word(vram, at))
+    let across = screens_wide(p.w64);
+    p.tilemap_base as usize + row / 32 * across * 1024 + row % 32 * 32
+}
+
+// The entry of the tile that holds column px of the map, in a row of tiles.
+pub fn entry_in(vram: &[u16], map_row: usize, tile16: bool, px: usize) -> MapEntry
+    requires { ⌜ («map_row» < 131072) × (px < 1024) ⌝ }
+    ensures { λ r. ⌜ (r ≡ entryIn (now (vram .entry)) «map_row» tile16 px) × (r .palette < 8) ⌝ }
+{
+    let col = tile_of(px, tile16);
+    crate::map_entry(tiles::inner::word(vram, map_row + col / 32 * 1024 + col % 32))
 }

@@ -2,13 +2,13 @@
 // there. What the row knows is found once.
 use bg_map::BgParams;
 use bg_map::inner::extent;
+use bg_map::inner::map_row;
 use bg_map::inner::source_line;
 use bg_tile::inner::cell;
 use bg_tile::inner::character;
 use bg_tile::inner::is_direct;
 use bg_tile::inner::palette;
 use line::Candidate;
-use line::LinePixel;
 use registers::PPURegisters;
 ghost use mathlib.Core.Path.{_≡_};
 ghost use Prim.Native.Nat.{_+_, _-_, _%_, _<_, _≤_, min};
@@ -20,15 +20,6 @@ ghost use Rattle.bg_map.specs.Source.{extentOf};
 ghost use Rattle.bg_row.specs.Row.{Sound, bgPixel};
 ghost use Rattle.bg_row.specs.Cells.{cellAt};
 
-// What stands in a cell before it is decoded.
-fn blank() -> Candidate {
-    let pixel = LinePixel::backdrop(0);
-    Candidate {
-        opaque: false,
-        pixel,
-    }
-}
-
 // The cells of line py of the map: its pixels from the last multiple of 8 that the scroll has
 // passed, 33 characters of them.
 fn cells(vram: &[u16], cgram: &[u16], p: BgParams, direct: bool, py: usize) -> [Candidate; 264]
@@ -39,10 +30,11 @@ fn cells(vram: &[u16], cgram: &[u16], p: BgParams, direct: bool, py: usize) -> [
     let straight = is_direct(bpp, direct);
     let first = p.scroll_x as usize / 8 * 8;
     let width = extent(p.w64, p.tile16);
-    let none = blank();
+    let map_row = map_row(p, py);
+    let none = Candidate::none();
     let mut out = [none; 264];
     for j in 0..33 {
-        let t = character(vram, p, (first + j * 8) % width, py);
+        let t = character(vram, p, map_row, (first + j * 8) % width, py);
         let colors = palette(cgram, p, t.palette);
         for k in 0..8 {
             out[j * 8 + k] = cell(vram, colors, p, straight, t, k);
@@ -56,7 +48,7 @@ fn shifted(cells: [Candidate; 264], fine: usize) -> [Candidate; 256]
     requires { ⌜ fine < 8 ⌝ }
     ensures { λ r. ⌜ r ≡ tab 256 (λ x. rowOf cells (x + fine)) ⌝ }
 {
-    let none = blank();
+    let none = Candidate::none();
     let mut out = [none; 256];
     for x in 0..256 {
         out[x] = cells[x + fine];
@@ -76,7 +68,7 @@ fn blocks(cells: [Candidate; 264], fine: usize, block: usize) -> [Candidate; 256
     requires { ⌜ (fine < 8) × ((0 < block) × (block ≤ 16)) ⌝ }
     ensures { λ r. ⌜ r ≡ tab 256 (λ x. rowOf cells (x - x % block + fine)) ⌝ }
 {
-    let none = blank();
+    let none = Candidate::none();
     let mut out = [none; 256];
     let mut start = 0;
     while start < 256 {

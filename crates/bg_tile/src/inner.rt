@@ -12,6 +12,7 @@ ghost use Prim.Native.Nat.{_<_, _≤_};
 ghost use lib.ListN.{length};
 ghost use Rattle.line.specs.Pixels.{backgroundOf};
 ghost use Rattle.bg_map.specs.Source.{extentOf};
+ghost use Rattle.bg_map.specs.Rows.{mapRow};
 ghost use Rattle.bg_tile.specs.Tile.{mirrored, fineOf, characterWord, priorityOf, coloursOf, startOf, paletteOf, isEight, colourIn, pixelAt};
 ghost use Rattle.bg_tile.specs.Characters.{characterAt, cellIn};
 
@@ -49,12 +50,12 @@ fn priority(p: BgParams, high: bool) -> Priority
     if high { p.z_high } else { p.z_low }
 }
 
-// The character row that holds pixel (px, py) of the map.
-pub fn character(vram: &[u16], p: BgParams, px: usize, py: usize) -> Character
-    requires { ⌜ (px < extentOf (p .w64) (p .tile16)) × (py < extentOf (p .h64) (p .tile16)) ⌝ }
+// The character row that holds pixel (px, py) of the map, in its row of tiles.
+pub fn character(vram: &[u16], p: BgParams, map_row: usize, px: usize, py: usize) -> Character
+    requires { ⌜ ((«map_row» ≡ mapRow p py) × («map_row» < 131072)) × (px < extentOf (p .w64) (p .tile16)) ⌝ }
     ensures { λ r. ⌜ (r ≡ characterAt (now (vram .entry)) p px py) × ((r .row < 8) × (r .palette < 8)) ⌝ }
 {
-    let entry = bg_map::inner::entry_at(vram, p, px, py);
+    let entry = bg_map::inner::entry_in(vram, map_row, p.tile16, px);
     let fx = fine(px, p.tile16, entry.flip_x);
     let fy = fine(py, p.tile16, entry.flip_y);
     let bpp = p.bpp;
@@ -176,7 +177,8 @@ pub fn pixel(
     ensures { λ r. ⌜ r ≡ pixelAt (now (vram .entry)) (now (cgram .entry)) p direct px py ⌝ }
 {
     let bpp = p.bpp;
-    let t = character(vram, p, px / 8 * 8, py);
+    let map_row = bg_map::inner::map_row(p, py);
+    let t = character(vram, p, map_row, px / 8 * 8, py);
     let colors = palette(cgram, p, t.palette);
     cell(vram, colors, p, is_direct(bpp, direct), t, px % 8)
 }

@@ -16,11 +16,7 @@ pub fn on_screen(c: Candidate, shown: bool) -> Candidate
     if c.opaque & shown {
         return c;
     }
-    let pixel = LinePixel::backdrop(0);
-    Candidate {
-        opaque: false,
-        pixel,
-    }
+    Candidate::none()
 }
 
 // The window's mask over the columns, made only where it is on.

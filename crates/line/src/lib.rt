@@ -9,7 +9,7 @@ ghost use lib.Dec.{leb};
 ghost use Rattle.refusal.specs.Answer.{value};
 ghost use Rattle.registers.specs.Bits.{ofBackground};
 ghost use Rattle.line.specs.Answers.{layerMeans};
-ghost use Rattle.line.specs.Pixels.{priority, spritePriority, layerOf, backdropOf, backdropLines, deposited};
+ghost use Rattle.line.specs.Pixels.{priority, spritePriority, layerOf, backdropOf, none, backdropLines, deposited};
 
 // The layer that a pixel came from.
 pub enum Layer {
@@ -96,6 +96,19 @@ impl LinePixel {
 pub struct Candidate {
     pub opaque: bool,
     pub pixel: LinePixel,
+}
+
+impl Candidate {
+    // No candidate.
+    pub fn none() -> Candidate
+        ensures { λ r. ⌜ r ≡ none ⌝ }
+    {
+        let pixel = LinePixel::backdrop(0);
+        Candidate {
+            opaque: false,
+            pixel,
+        }
+    }
 }
 
 // The lines of both screens.

@@ -20,7 +20,12 @@ tests-say t =
     ∙ (λ i. bgTests (a .y) (length (now (a .vram))) (length (now (a .cgram))) (a .r .«mosaic_vcounter») (ltb (t .before .bg-index .ensures i) 4))
 
 lay-requires : tie.Need-lay-requires
-lay-requires c κs = let t = c .before .before in let b = t .before in let a = b .before .before .before .args in let h = t .tested .ensures .1 (passed (c .enum-told .given .1)) in sound (a .p) (b .bg-index .ensures) (h .0) (h .1 .0) (h .1 .1)
+lay-requires c κs =
+    let t = c .before .before in
+    let b = t .before in
+    let a = b .before .before .before .args in
+    let h = t .tested .ensures .1 (passed (c .enum-told .given .1)) in
+    sound (a .p) (b .bg-index .ensures) (h .0) (h .1 .0) (h .1 .1)
 
 returns : tie.Need-returns
 returns c = by-fine tt _ _ (tests-say (c .before .before .before)) (c .before .enum-told .given .1) refl (c .lay .ensures)

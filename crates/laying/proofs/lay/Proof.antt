@@ -6,7 +6,21 @@ use Rattle.laying.proofs.lay.Statement.{statement}
 use Rattle.laying.proofs.lay.Tie as tie
 
 returns : tie.Need-returns
-returns c = let d = c .before in let m = d .before in let a = m .before .before .before .before .args in let s = a .s in let on = s .«win_main» || s .«win_sub» in λ i. record { main = (d .lay-screen .ensures ∙ by-mask (s .«to_main») (s .«win_main») on (s .window) (a .row) (a .lines .main) (m .mask .ensures) (bars-main (s .«win_main») (s .«win_sub»))) i; sub = (c .lay-screen2 .ensures ∙ by-mask (s .«to_sub») (s .«win_sub») on (s .window) (a .row) (a .lines .sub) (m .mask .ensures) (bars-sub (s .«win_main») (s .«win_sub»))) i }
+returns c =
+    let d = c .before in
+    let m = d .before in
+    let a = m .before .before .before .before .args in
+    let s = a .s in
+    let on = s .«win_main» || s .«win_sub» in
+    let main =
+    d .lay-screen .ensures
+    ∙ by-mask (s .«to_main») (s .«win_main») on (s .window) (a .row) (a .lines .main) (m .mask .ensures)
+    (bars-main (s .«win_main») (s .«win_sub»)) in
+    let sub =
+    c .lay-screen2 .ensures
+    ∙ by-mask (s .«to_sub») (s .«win_sub») on (s .window) (a .row) (a .lines .sub) (m .mask .ensures)
+    (bars-sub (s .«win_main») (s .«win_sub»)) in
+    λ i. record { main = main i; sub = sub i }
 
 pub lay-spec : {M : Type 1} → statement M
 lay-spec = tie.close (tie.spec (λ c κs. search needs) (λ c κs. search needs) (λ c κs. search needs) returns)

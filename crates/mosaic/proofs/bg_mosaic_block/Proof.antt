@@ -8,7 +8,9 @@ use Rattle.mosaic.proofs.bg_mosaic_block.Statement.{statement}
 use Rattle.mosaic.proofs.bg_mosaic_block.Tie as tie
 
 returns : tie.Need-returns
-returns c = let a = c .before .before .before .args in simp (lt-ltb _ _ (c .before .before .if1 .taken)) (ap value (c .block .ensures .0 ∙ ap (λ (t : Bool). blockIf t (a .r)) (c .before .bg-mosaic .ensures)))
+returns c =
+    let a = c .before .before .before .args in
+    simp (lt-ltb _ _ (c .before .before .if1 .taken)) (ap value (c .block .ensures .0 ∙ ap (λ (t : Bool). blockIf t (a .r)) (c .before .bg-mosaic .ensures)))
 
 returns-2 : tie.Need-returns-2
 returns-2 c = simp (le-ltb _ _ (c .if1 .left))

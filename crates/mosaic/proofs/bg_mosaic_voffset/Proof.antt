@@ -13,7 +13,11 @@ returns : tie.Need-returns
 returns c = simp (lt-leb _ _ (c .if1 .taken))
 
 returns-2 : tie.Need-returns-2
-returns-2 c = let d = c .before .before in simp (le-leb _ _ (d .before .if1 .left), lt-ltb _ _ (d .if2 .taken)) (ap value (read-back w16 (c .voffset .ok) (c .voffset .ensures) ∙ ap (λ (t : Bool). offsetIf t (d .before .before .before .args .r)) (c .before .bg-mosaic .ensures)))
+returns-2 c =
+    let d = c .before .before in
+    simp (le-leb _ _ (d .before .if1 .left), lt-ltb _ _ (d .if2 .taken))
+    (ap value (read-back w16 (c .voffset .ok) (c .voffset .ensures)
+    ∙ ap (λ (t : Bool). offsetIf t (d .before .before .before .args .r)) (c .before .bg-mosaic .ensures)))
 
 returns-3 : tie.Need-returns-3
 returns-3 c = simp (le-leb _ _ (c .before .if1 .left), le-ltb _ _ (c .if2 .left))

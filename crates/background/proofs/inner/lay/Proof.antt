@@ -9,7 +9,12 @@ use Rattle.background.proofs.inner.lay.Statement.{statement}
 use Rattle.background.proofs.inner.lay.Tie as tie
 
 returns : tie.Need-returns
-returns c = let w = c .before .before in let a = w .before .before .before .args in c .lay .ensures ∙ ((λ i. layLines (c .before .shown .ensures i) (rowOf (w .row .ensures i)) (a .lines)) ∙ lay-row (shownOf (a .r) (a .p)) (bgPixel (now (a .vram)) (now (a .cgram)) (a .r) (a .p) (a .y)) (a .lines))
+returns c =
+    let w = c .before .before in
+    let a = w .before .before .before .args in
+    c .lay .ensures
+    ∙ ((λ i. layLines (c .before .shown .ensures i) (rowOf (w .row .ensures i)) (a .lines))
+    ∙ lay-row (shownOf (a .r) (a .p)) (bgPixel (now (a .vram)) (now (a .cgram)) (a .r) (a .p) (a .y)) (a .lines))
 
 pub lay-spec : {M : Type 1} → statement M
 lay-spec = tie.close (tie.spec (λ c κs. search needs) (λ c κs. search needs) (λ c κs. search needs) returns)

@@ -11,7 +11,14 @@ sub-result c = mod-le _ _
 
 returns : tie.Need-returns
 unfolding sourceColumn
-returns c = let e = c .before in let a = e .before .before .args in let b = e .before .block in let w = e .extent in (λ i. (a .x - a .x % b .ensures .0 i + a .p .«scroll_x») % w .ensures .0 i, subst (λ (k : ℕ). (a .x - a .x % b .result + a .p .«scroll_x») % w .result < k) (w .ensures .0) (mod-lt _ (w .ensures .1 .0)))
+returns c =
+    let e = c .before in
+    let a = e .before .before .args in
+    let b = e .before .block in
+    let w = e .extent in (
+      λ i. (a .x - a .x % b .ensures .0 i + a .p .«scroll_x») % w .ensures .0 i,
+      subst (λ (k : ℕ). (a .x - a .x % b .result + a .p .«scroll_x») % w .result < k) (w .ensures .0) (mod-lt _ (w .ensures .1 .0)),
+    )
 
 pub source-column-spec : {M : Type 1} → statement M
 source-column-spec =

@@ -24,10 +24,30 @@ loop-holds : tie.Need-loop-holds Inv-loop2 μ-loop2 Inv-loop μ-loop
 loop-holds c = (front-none (search needs), λ h. first-start _)
 
 loop2-again : tie.Need-loop2-again Inv-loop2 μ-loop2 Inv-loop μ-loop
-loop2-again c = let l = c .before .loop2 in let e = c .before .before in let i = e .before .before in let o = i .before .loop in let a = i .before .before .before .args in let s = o .start in let b = a .block in let m = e .least .ensures in let h = c .loop2-test .taken in let k : l .x < s + b = omega (arith, m, h) in let n : l .x < 256 = omega (arith, m, h) in (front-more (l .inv .0) n _ (ap (λ (j : ℕ). rowOf (a .t1) (j + a .fine)) (sym (block-start b s (l .x) (o .inv .1 (i .loop-test .taken)) (l .inv .1 .0) k))), (omega (arith, l .inv .1 .0), omega (arith, h)))
+loop2-again c =
+    let l = c .before .loop2 in
+    let e = c .before .before in
+    let i = e .before .before in
+    let o = i .before .loop in
+    let a = i .before .before .before .args in
+    let s = o .start in
+    let b = a .block in
+    let m = e .least .ensures in
+    let h = c .loop2-test .taken in
+    let k : l .x < s + b = omega (arith, m, h) in
+    let n : l .x < 256 = omega (arith, m, h) in
+    (front-more (l .inv .0) n _ (ap (λ (j : ℕ). rowOf (a .t1) (j + a .fine)) (sym (block-start b s (l .x) (o .inv .1 (i .loop-test .taken)) (l .inv .1 .0) k))), (omega (arith, l .inv .1 .0), omega (arith, h)))
 
 loop-again : tie.Need-loop-again Inv-loop2 μ-loop2 Inv-loop μ-loop
-loop-again c = let l = c .before .loop2 in let e = c .before .before in let i = e .before .before in let o = i .before .loop in let a = i .before .before .before .args in let m = e .least .ensures in let x : l .x ≡ e .least .result = omega (arith, l .inv .1 .1, c .loop2-test .left) in (front-at x (l .inv .0), λ h. ap (λ (n : ℕ). n % a .block) m ∙ next-start (a .block) (o .start) (o .inv .1 (i .loop-test .taken)) (subst (λ (n : ℕ). n < 256) m h))
+loop-again c =
+    let l = c .before .loop2 in
+    let e = c .before .before in
+    let i = e .before .before in
+    let o = i .before .loop in
+    let a = i .before .before .before .args in
+    let m = e .least .ensures in
+    let x : l .x ≡ e .least .result = omega (arith, l .inv .1 .1, c .loop2-test .left) in
+    (front-at x (l .inv .0), λ h. ap (λ (n : ℕ). n % a .block) m ∙ next-start (a .block) (o .start) (o .inv .1 (i .loop-test .taken)) (subst (λ (n : ℕ). n < 256) m h))
 
 returns : tie.Need-returns Inv-loop2 μ-loop2 Inv-loop μ-loop
 returns c = front-all (c .before .loop .inv .0) (c .loop-test .left)

@@ -14,7 +14,22 @@ use Rattle.bg_row.proofs.inner.row.Statement.{statement}
 use Rattle.bg_row.proofs.inner.row.Tie as tie
 
 returns : tie.Need-returns
-returns c = let b = c .before .before in let d = b .before in let s = d .before .before in let a = s .before .before .before .args in let v = now (a .vram) in let g = now (a .cgram) in let p = a .p in let fine = p .«scroll_x» % 8 in c .columns .ensures ∙ tab-ext 256 _ _ (λ x h. (λ i. rowOf (d .cells .ensures i) (x - x % b .block .ensures .0 i + fine)) ∙ (getD-tab (cellAt v g p (d .before .direct-color .result) (s .source-line .result)) 264 (x - x % blockIf (p .mosaic) (a .r) + fine) none (within-cells (blockIf (p .mosaic) (a .r)) x fine h (omega arith)) ∙ ((λ i. cellAt v g p (d .before .direct-color .ensures i) (s .source-line .ensures .0 i) (x - x % blockIf (p .mosaic) (a .r) + fine)) ∙ cell-shown v g (a .r) p (a .y) x)))
+returns c =
+    let b = c .before .before in
+    let d = b .before in
+    let s = d .before .before in
+    let a = s .before .before .before .args in
+    let v = now (a .vram) in
+    let g = now (a .cgram) in
+    let p = a .p in
+    let fine = p .«scroll_x» % 8 in
+    let size = blockIf (p .mosaic) (a .r) in
+    c .columns .ensures
+    ∙ tab-ext 256 _ _
+    (λ x h. (λ i. rowOf (d .cells .ensures i) (x - x % b .block .ensures .0 i + fine))
+    ∙ (getD-tab (cellAt v g p (d .before .direct-color .result) (s .source-line .result)) 264 (x - x % size + fine) none (within-cells size x fine h (omega arith))
+    ∙ ((λ i. cellAt v g p (d .before .direct-color .ensures i) (s .source-line .ensures .0 i) (x - x % size + fine))
+    ∙ cell-shown v g (a .r) p (a .y) x)))
 
 pub row-spec : {M : Type 1} → statement M
 row-spec =

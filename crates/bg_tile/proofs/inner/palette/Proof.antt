@@ -33,7 +33,12 @@ part-result-end : tie.Need-part-result-end
 part-result-end c = omega (arith, within c)
 
 returns : tie.Need-returns
-returns c = let d = c .before in let a = d .before .palette-start .result in let n = d .colors .result in let e : a + n - a ≡ n = omega arith in rw (e, start-is d, d .colors .ensures)
+returns c =
+    let d = c .before in
+    let a = d .before .palette-start .result in
+    let n = d .colors .result in
+    let e : a + n - a ≡ n = omega arith in
+    rw (e, start-is d, d .colors .ensures)
 
 pub palette-spec : {M : Type 1} → statement M
 palette-spec =

@@ -19,7 +19,12 @@ loop-holds : tie.Need-loop-holds Inv-loop μ-loop
 loop-holds c = filled-none (search (needs, long-field))
 
 loop-again : tie.Need-loop-again Inv-loop μ-loop
-loop-again c = let u = c .before in let l = u .before .before .before in let h = l .loop-test .taken in let i = l .before .loop .inv in filled-more i h _ (c .deposit .ensures ∙ (λ k. deposited (filled-read i h noPixel k) (u .unless .ensures k)))
+loop-again c =
+    let u = c .before in
+    let l = u .before .before .before in
+    let h = l .loop-test .taken in
+    let i = l .before .loop .inv in
+    filled-more i h _ (c .deposit .ensures ∙ (λ k. deposited (filled-read i h noPixel k) (u .unless .ensures k)))
 
 returns : tie.Need-returns Inv-loop μ-loop
 returns c = filled-all (c .before .loop .inv) (c .loop-test .left)

@@ -13,7 +13,12 @@ use Rattle.laying.proofs.inner.lay_screen.Statement.{statement}
 use Rattle.laying.proofs.inner.lay_screen.Tie as tie
 
 returns : tie.Need-returns
-returns c = let a = c .before .before .args in let t : ℕ → Bool = λ x. not (a .win && getD (a .mask) x false) in c .lay-line .ensures ∙ tab-ext 256 _ _ (λ x h. laid-as-shown (getD (a .line) x noPixel) (t x) (rowOf (a .row) x) ∙ ap (λ (b : Bool). deposited (getD (a .line) x noPixel) (onScreen (b && t x) (rowOf (a .row) x))) (sym (c .before .if1 .taken)))
+returns c =
+    let a = c .before .before .args in
+    let t : ℕ → Bool = λ x. not (a .win && getD (a .mask) x false) in
+    c .lay-line .ensures
+    ∙ tab-ext 256 _ _ (λ x h. laid-as-shown (getD (a .line) x noPixel) (t x) (rowOf (a .row) x)
+    ∙ ap (λ (b : Bool). deposited (getD (a .line) x noPixel) (onScreen (b && t x) (rowOf (a .row) x))) (sym (c .before .if1 .taken)))
 
 returns-2 : tie.Need-returns-2
 returns-2 c =

@@ -23,7 +23,9 @@ loop-holds : tie.Need-loop-holds Inv-loop μ-loop
 loop-holds c = front-none (search needs)
 
 loop-again : tie.Need-loop-again Inv-loop μ-loop
-loop-again c = let l = c .before in front-more (l .before .loop .inv) (l .loop-test .taken) _ (c .masked .ensures ∙ mask-on (l .before .before .before .args .on) _ (l .before .before .if1 .left))
+loop-again c =
+    let l = c .before in
+    front-more (l .before .loop .inv) (l .loop-test .taken) _ (c .masked .ensures ∙ mask-on (l .before .before .before .args .on) _ (l .before .before .if1 .left))
 
 returns-2 : tie.Need-returns-2 Inv-loop μ-loop
 returns-2 c = front-all (c .before .loop .inv) (c .loop-test .left)

@@ -1,6 +1,3 @@
-use Rattle.line.specs.declared.LinePixel.{LinePixel}
-use mathlib.Core.Bool.{false}
-use mathlib.Core.Path.{ap}
 use borrow.Author.Needs.{needs}
 use Rattle.laying.proofs.inner.on_screen.Statement.{statement}
 use Rattle.laying.proofs.inner.on_screen.Tie as tie
@@ -9,7 +6,7 @@ returns : tie.Need-returns
 returns c = rw (c .if1 .taken)
 
 returns-2 : tie.Need-returns-2
-returns-2 c = rw (c .before .if1 .left) (ap (λ (q : LinePixel). record { opaque = false; pixel = q }) (c .backdrop .ensures))
+returns-2 c = rw (c .before .if1 .left) (c .none .ensures)
 
 pub on-screen-spec : {M : Type 1} → statement M
 on-screen-spec = tie.close (tie.spec returns (λ c κs. search needs) returns-2)

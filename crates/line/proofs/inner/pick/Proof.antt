@@ -4,7 +4,10 @@ use Rattle.line.proofs.inner.pick.Statement.{statement}
 use Rattle.line.proofs.inner.pick.Tie as tie
 
 returns : tie.Need-returns
-returns c = let a = c .before .before .before .before .before .before .args in by-fields (a .on) (a .a) (a .b) (c .before .before .before .pick-color .ensures) (c .before .before .pick-priority .ensures) (c .before .pick-layer .ensures) (c .pick-mark .ensures)
+returns c =
+    let a = c .before .before .before .before .before .before .args in
+    by-fields (a .on) (a .a) (a .b)
+    (c .before .before .before .pick-color .ensures) (c .before .before .pick-priority .ensures) (c .before .pick-layer .ensures) (c .pick-mark .ensures)
 
 pub pick-spec : {M : Type 1} → statement M
 pick-spec =
