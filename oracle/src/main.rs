@@ -1,5 +1,6 @@
 //! `oracle LIST` prints a list of what the Rust answers.
 
+mod background;
 mod choice;
 mod colour;
 mod generator;
@@ -22,9 +23,12 @@ fn main() -> ExitCode {
         ["oam"] => oam::list(),
         ["choice"] => choice::list(),
         ["port"] => port::list(),
+        ["background"] => background::list(),
         ["outside"] => outside::list(),
         _ => {
-            eprintln!("usage: oracle colour | tiles | registers | oam | choice | port | outside");
+            eprintln!(
+                "usage: oracle colour | tiles | registers | oam | choice | port | background | outside"
+            );
             return ExitCode::from(2);
         }
     };
