@@ -10,6 +10,7 @@ use refusal::Refusal;
 use refusal::Verdict;
 use registers::PPURegisters;
 use registers::constants::BACKGROUNDS;
+use registers::constants::COLOUR_WORDS;
 use registers::constants::LARGEST_COUNTER;
 use registers::constants::SCREEN_HEIGHT;
 use registers::constants::SCREEN_WIDTH;
@@ -20,9 +21,6 @@ ghost use Prim.Native.Nat.{_<_};
 ghost use Rattle.refusal.specs.Verdicts.{verdictMeans, Passed};
 ghost use Rattle.background.specs.Background.{bgTests, candidatesAnswer, lineOutcome};
 ghost use Rattle.background.specs.Answers.{candidatesMean, linesMean};
-
-// The words of colour memory.
-pub const COLOUR_WORDS: usize = 256;
 
 pub enum CandidatesAnswer {
     Is(Candidates),

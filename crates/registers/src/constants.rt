@@ -10,3 +10,5 @@ pub const BACKGROUNDS: usize = 4;
 pub const LAYERS: usize = 5;
 // The largest mosaic counter.
 pub const LARGEST_COUNTER: u8 = 16;
+// The words of colour memory.
+pub const COLOUR_WORDS: usize = 256;
