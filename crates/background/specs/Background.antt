@@ -8,6 +8,7 @@ use Rattle.refusal.specs.Answer.{Answer, value, provided, _andThen_, Outcome, o
 use Rattle.registers.specs.declared.PPURegisters.{PPURegisters}
 use Rattle.registers.specs.Bits.{bitOf}
 use Rattle.windows.specs.Windows.{bgWindow}
+use Rattle.line.specs.declared.Layer.{Layer}
 use Rattle.line.specs.declared.Lines.{Lines}
 use Rattle.line.specs.Pixels.{backgroundOf}
 use Rattle.laying.specs.declared.Shown.{Shown}
@@ -26,28 +27,28 @@ shownOf r p = record {
   window = bgWindow r (backgroundOf (p .layer));
 }
 
--- a row above 223 is refused 1, VRAM of another length 2, colour memory 3, a counter above 16 6; then 7
+-- a row above 223 is refused 1, VRAM of another length 2, colour memory 3, a counter above 16 6, another argument out of range 7
 abbrev pub bgTests : ℕ → ℕ → ℕ → ℕ → Bool → Answer Unit
-bgTests y words colours counter known =
+bgTests y words colours counter inRange =
     provided (ltb y 224) 1
     (provided (eqb words 32768) 2
     (provided (eqb colours 256) 3
     (provided (leb counter 16) 6
-    (provided known 7 (value tt)))))
+    (provided inRange 7 (value tt)))))
 
--- the layer is a background
-abbrev pub isBackground : BgParams → Bool
-isBackground p = ltb (backgroundOf (p .layer)) 4
+-- the layer is one of backgrounds 0 to 3
+abbrev pub isBackground : Layer → Bool
+isBackground layer = ltb (backgroundOf layer) 4
 
 -- the candidates at column x of row y
 abbrev pub candidatesAnswer : List ℕ → List ℕ → PPURegisters → BgParams → ℕ → ℕ → Answer Candidates
 candidatesAnswer v g r p x y =
-    bgTests y (length v) (length g) (r .«mosaic_vcounter») (isBackground p && ltb x 256)
+    bgTests y (length v) (length g) (r .«mosaic_vcounter») (ltb x 256 && isBackground (p .layer))
     andThen value (candidatesOf (shownOf r p) x (bgPixel v g r p y x))
 
 -- both lines after row y is laid over them
 abbrev pub lineOutcome : List ℕ → List ℕ → PPURegisters → BgParams → ℕ → Lines → Outcome Unit Lines
 lineOutcome v g r p y lines =
-    outcome (bgTests y (length v) (length g) (r .«mosaic_vcounter») (isBackground p)) tt
+    outcome (bgTests y (length v) (length g) (r .«mosaic_vcounter») (isBackground (p .layer))) tt
     (layLines (shownOf r p) (bgPixel v g r p y) lines)
     lines

@@ -4,6 +4,7 @@ pub mod inner;
 
 use bg_map::BgParams;
 use laying::Candidates;
+use line::Layer;
 use line::Lines;
 use line::inner::bg_index;
 use refusal::Refusal;
@@ -16,10 +17,10 @@ use registers::constants::SCREEN_HEIGHT;
 use registers::constants::SCREEN_WIDTH;
 use tiles::inner::VRAM_WORDS;
 ghost use mathlib.Core.Path.{_≡_};
-ghost use mathlib.Core.Bool.{true};
-ghost use Prim.Native.Nat.{_<_};
+ghost use mathlib.Core.Bool.{true, _&&_};
 ghost use Rattle.refusal.specs.Verdicts.{verdictMeans, Passed};
-ghost use Rattle.background.specs.Background.{bgTests, candidatesAnswer, lineOutcome};
+ghost use Rattle.bg_row.specs.Row.{Sound};
+ghost use Rattle.background.specs.Background.{bgTests, isBackground, candidatesAnswer, lineOutcome};
 ghost use Rattle.background.specs.Answers.{candidatesMean, linesMean};
 
 pub enum CandidatesAnswer {
@@ -33,9 +34,16 @@ pub struct LinesAnswer {
     pub lines: Lines,
 }
 
-// The tests of both calls; `known` says that the background, and the column, are in their range.
-fn tested(y: usize, words: usize, colours: usize, counter: u8, known: bool) -> Verdict
-    ensures { λ r. ⌜ (verdictMeans r ≡ bgTests y words colours counter known) × (Passed r → (y < 224) × ((colours ≡ 256) × (known ≡ true))) ⌝ }
+// The tests of both calls; `column` says that the column is in its range.
+fn tested(
+    y: usize,
+    words: usize,
+    colours: usize,
+    counter: u8,
+    column: bool,
+    layer: Layer,
+) -> Verdict
+    ensures { λ r. ⌜ (verdictMeans r ≡ bgTests y words colours counter (column && isBackground layer)) × (Passed r → Sound colours layer y × (column ≡ true)) ⌝ }
 {
     if y >= SCREEN_HEIGHT {
         return Verdict::Refused(Refusal::Row);
@@ -49,8 +57,10 @@ fn tested(y: usize, words: usize, colours: usize, counter: u8, known: bool) -> V
     if counter > LARGEST_COUNTER {
         return Verdict::Refused(Refusal::Counter);
     }
-    if known {
-        return Verdict::Fine;
+    if column {
+        if bg_index(layer) < BACKGROUNDS {
+            return Verdict::Fine;
+        }
     }
     Verdict::Refused(Refusal::Argument)
 }
@@ -67,8 +77,8 @@ pub fn bg_candidates(
     ensures { λ a. ⌜ candidatesMean a ≡ candidatesAnswer (now (vram .entry)) (now (cgram .entry)) r p x y ⌝ }
 {
     let layer = p.layer;
-    let known = (bg_index(layer) < BACKGROUNDS) & (x < SCREEN_WIDTH);
-    match tested(y, vram.len(), cgram.len(), r.mosaic_vcounter, known) {
+    let column = x < SCREEN_WIDTH;
+    match tested(y, vram.len(), cgram.len(), r.mosaic_vcounter, column, layer) {
         Verdict::Fine => CandidatesAnswer::Is(inner::candidates(vram, cgram, r, p, x, y)),
         Verdict::Refused(n) => CandidatesAnswer::Refused(n),
     }
@@ -86,8 +96,7 @@ pub fn render_bg_scanline(
     ensures { λ a. ⌜ linesMean a ≡ lineOutcome (now (vram .entry)) (now (cgram .entry)) r p y lines ⌝ }
 {
     let layer = p.layer;
-    let known = bg_index(layer) < BACKGROUNDS;
-    match tested(y, vram.len(), cgram.len(), r.mosaic_vcounter, known) {
+    match tested(y, vram.len(), cgram.len(), r.mosaic_vcounter, true, layer) {
         Verdict::Fine => {
             let laid = inner::lay(lines, vram, cgram, r, p, y);
             LinesAnswer {

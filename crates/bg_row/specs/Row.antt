@@ -5,6 +5,7 @@ use mathlib.Core.List.{List}
 use Rattle.registers.specs.declared.PPURegisters.{PPURegisters}
 use Rattle.registers.specs.Screen.{directColour}
 use Rattle.line.specs.declared.Candidate.{Candidate}
+use Rattle.line.specs.declared.Layer.{Layer}
 use Rattle.line.specs.Pixels.{backgroundOf}
 use Rattle.bg_map.specs.declared.BgParams.{BgParams}
 use Rattle.bg_map.specs.Source.{sourceColumn, sourceLine}
@@ -15,7 +16,7 @@ unfoldable pub bgPixel : List ℕ → List ℕ → PPURegisters → BgParams →
 bgPixel v g r p y x = pixelAt v g p (directColour r) (sourceColumn r p x) (sourceLine r p y)
 
 -- what the tests leave for the work
-pub record Sound (colours : ℕ) (p : BgParams) (y : ℕ) : Type 0 where
+pub record Sound (colours : ℕ) (layer : Layer) (y : ℕ) : Type 0 where
   pub whole : colours ≡ 256
-  pub background : backgroundOf (p .layer) < 4
+  pub background : backgroundOf layer < 4
   pub row : y < 224

@@ -94,7 +94,7 @@ fn columns(cells: [Candidate; 264], fine: usize, block: usize) -> [Candidate; 25
 
 // What the background has at the columns of row y.
 pub fn row(vram: &[u16], cgram: &[u16], r: PPURegisters, p: BgParams, y: usize) -> [Candidate; 256]
-    requires { ⌜ Sound (length (now cgram)) p y ⌝ }
+    requires { ⌜ Sound (length (now cgram)) (p .layer) y ⌝ }
     ensures { λ c. ⌜ c ≡ tab 256 (bgPixel (now (vram .entry)) (now (cgram .entry)) r p y) ⌝ }
 {
     let py = source_line(r, p, y);

@@ -55,13 +55,12 @@ by-mask lit win on w row line e law =
     ∙ (ap (λ (t : Bool). win && t) (getD-tab (λ (k : ℕ). on && masked w k) 256 x false h) ∙ law (masked w x))))
 
 -- an array that a rule fills is laid as the rule says
+row-line : (shown : ℕ → Bool) (c : ℕ → Candidate) (line : List LinePixel) →
+    layLine (λ x. onScreen (shown x) (rowOf (tab 256 c) x)) line ≡ layLine (λ x. onScreen (shown x) (c x)) line
+row-line shown c line =
+    tab-ext 256 _ _
+    (λ x h. ap (λ (k : Candidate). deposited (getD line x noPixel) (onScreen (shown x) k)) (getD-tab c 256 x none h))
+
 pub lay-row : (s : Shown) (c : ℕ → Candidate) (lines : Lines) → layLines s (rowOf (tab 256 c)) lines ≡ layLines s c lines
 lay-row s c lines =
-    λ i. record {
-      main =
-          tab-ext 256 _ _
-          (λ x h. ap (λ (k : Candidate). deposited (getD (lines .main) x noPixel) (onScreen (onMain s x) k)) (getD-tab c 256 x none h)) i;
-      sub =
-          tab-ext 256 _ _
-          (λ x h. ap (λ (k : Candidate). deposited (getD (lines .sub) x noPixel) (onScreen (onSub s x) k)) (getD-tab c 256 x none h)) i;
-    }
+    λ i. record { main = row-line (onMain s) c (lines .main) i; sub = row-line (onSub s) c (lines .sub) i }

@@ -143,31 +143,40 @@ module _ {S : Type 0} where
     abbrev pub subAt : ℕ → S → Candidate
     subAt x k = candidatesOf (shown k) x (row k x) .sub
 
-    main-line : (ks : List S) (lines : Lines) → layAll ks lines .main ≡ lays (λ k x. mainAt x k) ks (lines .main)
-    unfolding layAll lays
-    main-line [] lines = refl
-    main-line (k ∷ ks) lines = main-line ks (layLines (shown k) (row k) lines)
+    -- Said once of a screen: how its line is taken of the lines, what its candidates are and in which colour it starts.
+    module _ (of : Lines → List LinePixel) (on : ℕ → S → Candidate) (colour : ℕ)
+        (laid-on : (k : S) (lines : Lines) → of (layLines (shown k) (row k) lines) ≡ layLine (λ x. on x k) (of lines)) where
+      screen-line : (ks : List S) (lines : Lines) → of (layAll ks lines) ≡ lays (λ k x. on x k) ks (of lines)
+      unfolding layAll lays
+      screen-line [] lines = refl
+      screen-line (k ∷ ks) lines =
+          screen-line ks (layLines (shown k) (row k) lines) ∙ ap (lays (λ j x. on x j) ks) (laid-on k lines)
 
-    sub-line : (ks : List S) (lines : Lines) → layAll ks lines .sub ≡ lays (λ k x. subAt x k) ks (lines .sub)
-    unfolding layAll lays
-    sub-line [] lines = refl
-    sub-line (k ∷ ks) lines = sub-line ks (layLines (shown k) (row k) lines)
+      module _ (start : Lines) (starts : of start ≡ backdropLine colour) where
+        from-start : (ks : List S) → lays (λ k x. on x k) ks (backdropLine colour) ≡ of (layAll ks start)
+        from-start ks = sym (screen-line ks start ∙ ap (lays (λ j x. on x j) ks) starts)
+
+        screen-seen : (ks : List S) → ((k : S) → List·Memᴰ k ks) → (x : ℕ) → x < 256 →
+            Seen (on x) (backdropOf colour) (getD (of (layAll ks start)) x noPixel)
+        screen-seen ks m x h =
+            subst (λ (l : List LinePixel). Seen (on x) (backdropOf colour) (getD l x noPixel)) (from-start ks)
+            (lays-seen (λ k y. on y k) ks m colour x h)
+
+        one-screen : (ks js : List S) → ((k : S) → List·Memᴰ k ks) → ((k : S) → List·Memᴰ k js) →
+            ((x : ℕ) → x < 256 → NoTies (on x)) → of (layAll ks start) ≡ of (layAll js start)
+        one-screen ks js m n t = sym (from-start ks) ∙ (one-line (λ k y. on y k) ks js m n t colour ∙ from-start js)
 
     module _ (main sub : ℕ) where
       -- From the backdrops, every layer laid at least once, in whatever order: at each pixel of the main line the candidate of
       -- greatest priority is seen, or the backdrop where there is none.
       pub main-seen : (ks : List S) → ((k : S) → List·Memᴰ k ks) → (x : ℕ) → x < 256 →
           Seen (mainAt x) (backdropOf main) (getD (layAll ks (backdropLines main sub) .main) x noPixel)
-      main-seen ks m x h =
-          subst (λ (l : List LinePixel). Seen (mainAt x) (backdropOf main) (getD l x noPixel))
-          (sym (main-line ks (backdropLines main sub))) (lays-seen (λ k y. mainAt y k) ks m main x h)
+      main-seen = screen-seen (λ l. l .main) mainAt main (λ k l. refl) (backdropLines main sub) refl
 
       -- and so of the sub line
       pub sub-seen : (ks : List S) → ((k : S) → List·Memᴰ k ks) → (x : ℕ) → x < 256 →
           Seen (subAt x) (backdropOf sub) (getD (layAll ks (backdropLines main sub) .sub) x noPixel)
-      sub-seen ks m x h =
-          subst (λ (l : List LinePixel). Seen (subAt x) (backdropOf sub) (getD l x noPixel))
-          (sym (sub-line ks (backdropLines main sub))) (lays-seen (λ k y. subAt y k) ks m sub x h)
+      sub-seen = screen-seen (λ l. l .sub) subAt sub (λ k l. refl) (backdropLines main sub) refl
 
       -- So where no two candidates tie, any two orders leave the same lines.
       pub order-never-shows : (ks js : List S) → ((k : S) → List·Memᴰ k ks) → ((k : S) → List·Memᴰ k js) →
@@ -175,10 +184,6 @@ module _ {S : Type 0} where
           layAll ks (backdropLines main sub) ≡ layAll js (backdropLines main sub)
       order-never-shows ks js m n t u =
           λ i. record {
-            main =
-                (main-line ks (backdropLines main sub)
-                ∙ (one-line (λ k y. mainAt y k) ks js m n t main ∙ sym (main-line js (backdropLines main sub)))) i;
-            sub =
-                (sub-line ks (backdropLines main sub)
-                ∙ (one-line (λ k y. subAt y k) ks js m n u sub ∙ sym (sub-line js (backdropLines main sub)))) i;
+            main = one-screen (λ l. l .main) mainAt main (λ k l. refl) (backdropLines main sub) refl ks js m n t i;
+            sub = one-screen (λ l. l .sub) subAt sub (λ k l. refl) (backdropLines main sub) refl ks js m n u i;
           }

@@ -1,46 +1,18 @@
-use Rattle.background.proofs.Known.{sound}
-use Rattle.background.specs.Background.{bgTests, isBackground}
-use Rattle.refusal.specs.Verdicts.{verdictMeans, passed, by-fine, by-refusal}
-use denote.Ref.{now}
-use lib.ListN.{length}
-use lib.Dec.{ltb}
-use mathlib.Core.Path.{_≡_, refl, _∙_}
+use Rattle.refusal.specs.Verdicts.{passed, by-fine, by-refusal}
+use mathlib.Core.Path.{refl}
 use borrow.Author.Needs.{needs}
 use Rattle.background.proofs.render_bg_scanline.Statement.{statement}
 use Rattle.background.proofs.render_bg_scanline.Tie as tie
 
--- what the tests say, by the layer
-tests-say : (t : tie.After-tested) →
-    let a = t .before .before .before .before .args in
-    verdictMeans (t .tested .result)
-    ≡ bgTests (a .y) (length (now (a .vram))) (length (now (a .cgram))) (a .r .«mosaic_vcounter») (isBackground (a .p))
-tests-say t =
-    let a = t .before .before .before .before .args in
-    t .tested .ensures .0
-    ∙ (λ i. bgTests (a .y) (length (now (a .vram))) (length (now (a .cgram))) (a .r .«mosaic_vcounter») (ltb (t .before .bg-index .ensures i) 4))
-
 lay-requires : tie.Need-lay-requires
-lay-requires c κs =
-    let t = c .before .before in
-    let b = t .before in
-    let a = b .before .before .before .args in
-    let h = t .tested .ensures .1 (passed (c .enum-told .given .1)) in
-    sound (a .p) (b .bg-index .ensures) (h .0) (h .1 .0) (h .1 .1)
+lay-requires c κs = c .before .before .tested .ensures .1 (passed (c .enum-told .given .1)) .0
 
 returns : tie.Need-returns
-returns c = by-fine tt _ _ (tests-say (c .before .before .before)) (c .before .enum-told .given .1) refl (c .lay .ensures)
+returns c = by-fine tt _ _ (c .before .before .before .tested .ensures .0) (c .before .enum-told .given .1) refl (c .lay .ensures)
 
 returns-2 : tie.Need-returns-2
-returns-2 c = by-refusal tt _ _ (tests-say (c .before .before .before)) (c .before .n .given .1) refl
+returns-2 c = by-refusal tt _ _ (c .before .before .before .tested .ensures .0) (c .before .n .given .1) refl
 
 pub render-bg-scanline-spec : {M : Type 1} → statement M
 render-bg-scanline-spec =
-    tie.close
-    (tie.spec
-    (λ c κs. search needs)
-    (λ c κs. search needs)
-    (λ c. search needs)
-    lay-requires
-    (λ c. search needs)
-    returns
-    returns-2)
+    tie.close (tie.spec (λ c κs. search needs) (λ c. search needs) lay-requires (λ c. search needs) returns returns-2)
