@@ -1,2 +1,1 @@
 pub mod Background
-pub mod Answers

@@ -3,7 +3,8 @@
 pub mod inner;
 
 use bg_map::BgParams;
-use laying::Candidates;
+use laying::CandidatesAnswer;
+use laying::LinesAnswer;
 use line::Layer;
 use line::Lines;
 use line::inner::bg_index;
@@ -19,20 +20,9 @@ use tiles::inner::VRAM_WORDS;
 ghost use mathlib.Core.Path.{_≡_};
 ghost use mathlib.Core.Bool.{true, _&&_};
 ghost use Rattle.refusal.specs.Verdicts.{verdictMeans, Passed};
+ghost use Rattle.laying.specs.Answers.{candidatesMean, linesMean};
 ghost use Rattle.bg_row.specs.Row.{Sound};
 ghost use Rattle.background.specs.Background.{bgTests, isBackground, candidatesAnswer, lineOutcome};
-ghost use Rattle.background.specs.Answers.{candidatesMean, linesMean};
-
-pub enum CandidatesAnswer {
-    Is(Candidates),
-    Refused(Refusal),
-}
-
-// The verdict on a call, and the lines that it leaves: on a refusal those that came.
-pub struct LinesAnswer {
-    pub verdict: Verdict,
-    pub lines: Lines,
-}
 
 // The tests of both calls; `column` says that the column is in its range.
 fn tested(

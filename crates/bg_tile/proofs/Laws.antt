@@ -10,13 +10,13 @@ use lib.Dec.{lit≤}
 use lib.ListN.{length, length-take, length-drop}
 use Rattle.tiles.specs.declared.BitDepth.{BitDepth}
 use Rattle.tiles.specs.declared.BitDepth.the-variants.{Two, Four, Eight}
-use Rattle.tiles.specs.Tiles.{wordAt, indexOf, pairsOf, tileWords}
+use Rattle.tiles.specs.Tiles.{wordAt, indexOf, pairsOf, tileWords, mirrored}
 use Rattle.line.specs.Pixels.{backgroundOf}
 use Rattle.bg_map.specs.declared.BgParams.{BgParams}
 use Rattle.bg_map.specs.declared.MapEntry.{MapEntry}
 use Rattle.bg_map.specs.Source.{sideOf}
 use Rattle.bg_map.specs.Map.{mapWord, entryOf, entryAt}
-use Rattle.bg_tile.specs.Tile.{mirrored, fineOf, indexAt, coloursOf, startOf, paletteOf, isEight, pixelUnder, pixelAt}
+use Rattle.bg_tile.specs.Tile.{fineOf, indexAt, coloursOf, startOf, paletteOf, isEight, pixelUnder, pixelAt}
 use Rattle.bg_tile.specs.Characters.{characterUnder, characterAt, cellIndex, cellIn}
 
 pub character-small : (n words : ℕ) → words ≤ 32 → n % 1024 * words ≤ 1023 * 32

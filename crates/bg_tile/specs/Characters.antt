@@ -3,13 +3,13 @@
 use Prim.Native.Nat.{ℕ, _%_}
 use mathlib.Core.Bool.{Bool}
 use mathlib.Core.List.{List}
-use Rattle.tiles.specs.Tiles.{indexOf, pairsOf, tileWords}
+use Rattle.tiles.specs.Tiles.{indexOf, pairsOf, tileWords, mirrored}
 use Rattle.line.specs.declared.Candidate.{Candidate}
 use Rattle.bg_map.specs.declared.BgParams.{BgParams}
 use Rattle.bg_map.specs.declared.MapEntry.{MapEntry}
 use Rattle.bg_map.specs.Map.{entryAt}
 use Rattle.bg_tile.specs.declared.Character.{Character}
-use Rattle.bg_tile.specs.Tile.{mirrored, fineOf, characterWord, priorityOf, colourIn, pixelOf}
+use Rattle.bg_tile.specs.Tile.{fineOf, characterWord, priorityOf, colourIn, pixelOf}
 
 -- the character row of pixel (px, py) under its entry
 abbrev pub characterUnder : BgParams → MapEntry → ℕ → ℕ → Character

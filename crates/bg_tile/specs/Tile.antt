@@ -7,7 +7,7 @@ use lib.Dec.{eqb}
 use Rattle.colour.specs.Colour.{directColour}
 use Rattle.tiles.specs.declared.BitDepth.{BitDepth}
 use Rattle.tiles.specs.declared.BitDepth.the-variants.{Two, Four, Eight}
-use Rattle.tiles.specs.Tiles.{indexOf, pairsOf, tileWords}
+use Rattle.tiles.specs.Tiles.{indexOf, pairsOf, tileWords, mirrored}
 use Rattle.line.specs.declared.Priority.{Priority}
 use Rattle.line.specs.declared.Candidate.{Candidate}
 use Rattle.line.specs.Pixels.{backgroundOf}
@@ -15,10 +15,6 @@ use Rattle.bg_map.specs.declared.BgParams.{BgParams}
 use Rattle.bg_map.specs.declared.MapEntry.{MapEntry}
 use Rattle.bg_map.specs.Source.{sideOf}
 use Rattle.bg_map.specs.Map.{entryAt}
-
-abbrev pub mirrored : ℕ → ℕ → Bool → ℕ
-mirrored at side true = side - 1 - at
-mirrored at side false = at
 
 -- the place in its tile along one axis: a flip mirrors across the whole tile side
 abbrev pub fineOf : ℕ → Bool → Bool → ℕ

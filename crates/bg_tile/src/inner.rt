@@ -6,6 +6,7 @@ use line::LinePixel;
 use line::Priority;
 use line::inner::bg_index;
 use tiles::BitDepth;
+use tiles::inner::mirror;
 ghost use mathlib.Core.Path.{_≡_};
 ghost use mathlib.Core.Bool.{_&&_};
 ghost use Prim.Native.Nat.{_<_, _≤_};
@@ -13,16 +14,8 @@ ghost use lib.ListN.{length};
 ghost use Rattle.line.specs.Pixels.{backgroundOf};
 ghost use Rattle.bg_map.specs.Source.{extentOf};
 ghost use Rattle.bg_map.specs.Rows.{mapRow};
-ghost use Rattle.bg_tile.specs.Tile.{mirrored, fineOf, characterWord, priorityOf, coloursOf, startOf, paletteOf, isEight, colourIn, pixelAt};
+ghost use Rattle.bg_tile.specs.Tile.{fineOf, characterWord, priorityOf, coloursOf, startOf, paletteOf, isEight, colourIn, pixelAt};
 ghost use Rattle.bg_tile.specs.Characters.{characterAt, cellIn};
-
-// A place below `side`, mirrored where a flip says so.
-fn mirror(at: usize, side: usize, flip: bool) -> usize
-    requires { ⌜ at < side ⌝ }
-    ensures { λ r. ⌜ (r ≡ mirrored at side flip) × (r < side) ⌝ }
-{
-    if flip { side - 1 - at } else { at }
-}
 
 // The place in its tile of a place of the map, along one axis.
 fn fine(at: usize, tile16: bool, flip: bool) -> usize

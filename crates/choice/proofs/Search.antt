@@ -7,32 +7,20 @@ use mathlib.Core.List.{List, [], _∷_, _++_, map, map-append, append-assoc}
 use native.Mathlib.Nat.{add-zero, zero-add, add-assoc}
 use native.Mathlib.Omega.{arith}
 use lib.ListN.{length, take, set, replicate, length-append, length-map}
-use lib.Seq.{take-at, set-append-seam}
+use lib.Seq.{take-at}
 use lib.Dec.{ltb}
 use borrow.Author.Tests.{lt-ltb}
 use Rattle.lists.specs.Tab.{tab, tab-none, tab-more, tab-split}
+use Rattle.lists.specs.Places.{places, places-none, places-more}
 use Rattle.lists.specs.Keep.{keep, keep-none, keep-append, keep-yes, keep-no}
 use Rattle.oam.specs.Sprites.{spriteOf}
 use Rattle.sprite_row.specs.SpriteRow.{inRange, tilesOf}
 use Rattle.choice.specs.declared.VisibleSprite.{VisibleSprite}
 use Rattle.choice.specs.declared.Chosen.{Chosen}
-use Rattle.choice.specs.Choice.{searchAt, found, tileSum, visible, blankPlace, places, choiceOf}
+use Rattle.choice.specs.Choice.{searchAt, found, tileSum, visible, blankPlace, choiceOf}
 
--- in n places, one more is set at the length
-places-more : (n : ℕ) (l : List VisibleSprite) (p : VisibleSprite) → length l < n → set (places n l) (length l) p ≡ places n (l ++ p ∷ [])
-unfolding places
-places-more n l p h =
-    let e : n - length l ≡ suc (n - (length l + 1)) = omega arith in
-    let f : length (l ++ p ∷ []) ≡ length l + 1 = length-append l (p ∷ []) in
-    let rest = replicate (n - (length l + 1)) blankPlace in
-    rw (f, e) (set-append-seam l blankPlace rest p ∙ sym (append-assoc l (p ∷ []) rest))
-
-places-none : replicate 32 blankPlace ≡ places 32 []
-unfolding places
-places-none = refl
-
-pub none-is : {p : VisibleSprite} → p ≡ blankPlace → replicate 32 p ≡ places 32 []
-none-is e = ap (replicate 32) e ∙ places-none
+pub none-is : {p : VisibleSprite} → p ≡ blankPlace → replicate 32 p ≡ places 32 blankPlace []
+none-is e = ap (replicate 32) e ∙ places-none 32 blankPlace
 
 module _ (oam : List ℕ) (objsel : ℕ) where
   tiles-more : (l : List ℕ) (i : ℕ) → tileSum oam objsel (l ++ i ∷ []) ≡ tileSum oam objsel l + tilesOf objsel (spriteOf oam i objsel)
@@ -43,7 +31,7 @@ module _ (oam : List ℕ) (objsel : ℕ) where
 
   -- the loop's variables hold the list of the sprites found so far
   pub record SoFar (l : List ℕ) (sprites : List VisibleSprite) (count tiles : ℕ) : Type 0 where
-    pub is-sprites : sprites ≡ places 32 (map (visible oam objsel) l)
+    pub is-sprites : sprites ≡ places 32 blankPlace (map (visible oam objsel) l)
     pub is-count : count ≡ length l
     pub is-tiles : tiles ≡ tileSum oam objsel l
     pub few : count ≤ 32
@@ -64,7 +52,7 @@ module _ (oam : List ℕ) (objsel : ℕ) where
       (record {
         is-sprites =
             rw (s .is-sprites, s .is-count, q, map-append (visible oam objsel) l (i ∷ []), ← length-map l (visible oam objsel))
-            (places-more 32 (map (visible oam objsel) l) (visible oam objsel i) less);
+            (places-more 32 blankPlace (map (visible oam objsel) l) (visible oam objsel i) less);
         is-count = ap (λ (k : ℕ). k + 1) (s .is-count) ∙ sym (length-append l (i ∷ []));
         is-tiles = rw (s .is-tiles, f, q) (sym (tiles-more l i));
         few = omega (arith, n);

@@ -1,13 +1,14 @@
 -- The sprites chosen for a row: of the search order, those that the row meets and that are not passed over; the first 32
 -- of them; the sum of their counting tiles; the two flags.
-use Prim.Native.Nat.{ℕ, _+_, _-_, _/_, _%_}
+use Prim.Native.Nat.{ℕ, _+_, _/_, _%_}
 use mathlib.Core.Bool.{Bool, false, cond}
-use mathlib.Core.List.{List, [], _∷_, _++_, map}
-use lib.ListN.{length, take, replicate}
+use mathlib.Core.List.{List, [], _∷_, map}
+use lib.ListN.{length, take}
 use lib.Dec.{ltb, eqb}
 use Rattle.refusal.specs.Answer.{Answer, value, provided, Outcome, outcome}
 use Rattle.lists.specs.Tab.{tab}
 use Rattle.lists.specs.Keep.{keep}
+use Rattle.lists.specs.Places.{places}
 use Rattle.oam.specs.Sprites.{spriteOf, blankSprite}
 use Rattle.sprite_row.specs.SpriteRow.{inRange, tilesOf}
 use Rattle.choice.specs.declared.VisibleSprite.{VisibleSprite}
@@ -52,15 +53,11 @@ placedAt oam objsel start k = visible oam objsel (searchAt start k)
 abbrev pub blankPlace : VisibleSprite
 blankPlace = record { index = 0; sprite = blankSprite }
 
--- a list of sprites in n places: those beyond its length are blank
-unfoldable pub places : ℕ → List VisibleSprite → List VisibleSprite
-places n l = l ++ replicate (n - length l) blankPlace
-
 -- the choice, from the sprites found
 unfoldable pub choiceOf : List ℕ → ℕ → List ℕ → Chosen
 choiceOf oam objsel l =
     record {
-      sprites = places spriteLimit (map (visible oam objsel) (take spriteLimit l));
+      sprites = places spriteLimit blankPlace (map (visible oam objsel) (take spriteLimit l));
       count = length (take spriteLimit l);
       tiles = tileSum oam objsel (take spriteLimit l);
       «time_over» = ltb tileLimit (tileSum oam objsel (take spriteLimit l));
@@ -72,7 +69,7 @@ chosenOf oam row objsel oamadd interlace = choiceOf oam objsel (found oam row ob
 
 -- nothing chosen
 unfoldable pub noneChosen : Chosen
-noneChosen = record { sprites = places spriteLimit []; count = 0; tiles = 0; «time_over» = false; «range_over» = false }
+noneChosen = record { sprites = places spriteLimit blankPlace []; count = 0; tiles = 0; «time_over» = false; «range_over» = false }
 
 -- a row above 223 is refused 1, sprite memory of another length is refused 4
 abbrev pub choiceTests : ℕ → ℕ → Answer Unit

@@ -1,3 +1,4 @@
 pub mod Laying
 pub mod Unlit
 pub mod Order
+pub mod Answers

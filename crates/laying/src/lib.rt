@@ -3,6 +3,8 @@ pub mod inner;
 
 use line::Candidate;
 use line::Lines;
+use refusal::Refusal;
+use refusal::Verdict;
 use window::Window;
 ghost use mathlib.Core.Path.{_≡_};
 ghost use Rattle.laying.specs.Laying.{candidatesOf, rowOf, layLines};
@@ -21,6 +23,18 @@ pub struct Shown {
 pub struct Candidates {
     pub main: Candidate,
     pub sub: Candidate,
+}
+
+// What a call answers that is asked for a layer's candidates at a column.
+pub enum CandidatesAnswer {
+    Is(Candidates),
+    Refused(Refusal),
+}
+
+// The verdict on a call, and the lines that it leaves: on a refusal those that came.
+pub struct LinesAnswer {
+    pub verdict: Verdict,
+    pub lines: Lines,
 }
 
 // The candidates at column x of a layer that has c there.

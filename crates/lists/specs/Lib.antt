@@ -2,3 +2,4 @@ pub mod Tab
 pub mod Filling
 pub mod Keep
 pub mod Runs
+pub mod Places

@@ -1,12 +1,12 @@
 // The rows of a scene.
 use crate::memory;
 use crate::scene;
-use background::CandidatesAnswer;
 use bg_map::BgParams;
 use digest::fold;
 use generator::next;
 use generator::word;
 use laying::Candidates;
+use laying::CandidatesAnswer;
 use line::LinePixel;
 use line::Lines;
 use line::deposit;

@@ -1,8 +1,8 @@
 // A background drawn over lines that hold backdrops and, in column 1, a sprite.
 use crate::deposits::sprite;
 use crate::say;
-use background::CandidatesAnswer;
 use bg_map::BgParams;
+use laying::CandidatesAnswer;
 use line::Candidate;
 use line::Layer;
 use line::Lines;

@@ -1,6 +1,6 @@
 -- Tiles in VRAM.
 use Prim.Native.Nat.{ℕ, zero, suc, _+_, _-_, _*_, _/_, _%_, _^_}
-use mathlib.Core.Bool.{_&&_}
+use mathlib.Core.Bool.{Bool, true, false, _&&_}
 use mathlib.Core.List.{List}
 use lib.ListN.{length, getD}
 use lib.Dec.{eqb, ltb}
@@ -39,6 +39,11 @@ abbrev pub tileWords : BitDepth → ℕ
 tileWords Two = 8
 tileWords Four = 16
 tileWords Eight = 32
+
+-- a place along a side, mirrored across the whole of it by a flip
+abbrev pub mirrored : ℕ → ℕ → Bool → ℕ
+mirrored at side true = side - 1 - at
+mirrored at side false = at
 
 -- VRAM of another length is refused 2; a tile word above 65,535 or a tile pixel above 7 is refused 7
 abbrev pub tileTests : ℕ → ℕ → ℕ → ℕ → Answer Unit

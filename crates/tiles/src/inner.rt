@@ -2,7 +2,7 @@
 use crate::BitDepth;
 ghost use mathlib.Core.Path.{_≡_};
 ghost use Prim.Native.Nat.{_^_, _<_};
-ghost use Rattle.tiles.specs.Tiles.{wordAt, planeWord, pairOf, pairAt, indexOf, pairsOf};
+ghost use Rattle.tiles.specs.Tiles.{wordAt, planeWord, pairOf, pairAt, indexOf, pairsOf, mirrored};
 
 // The words of VRAM.
 pub const VRAM_WORDS: usize = 32768;
@@ -78,4 +78,12 @@ pub fn color_index(vram: &[u16], bpp: BitDepth, base: usize, x: usize, y: usize)
         BitDepth::Four => decode_4bpp(vram, base, x, y),
         BitDepth::Eight => decode_8bpp(vram, base, x, y),
     }
+}
+
+// A place below `side`, mirrored where a flip says so.
+pub fn mirror(at: usize, side: usize, flip: bool) -> usize
+    requires { ⌜ at < side ⌝ }
+    ensures { λ r. ⌜ (r ≡ mirrored at side flip) × (r < side) ⌝ }
+{
+    if flip { side - 1 - at } else { at }
 }

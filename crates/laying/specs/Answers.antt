@@ -1,14 +1,15 @@
--- What each answer of this crate means, case by case: the value, or the paper's number.
+-- What each answer of this crate means, case by case: the value, or the paper's number. The calls that give them stand in the
+-- crates above.
 use mathlib.Core.Path.{_≡_, refl}
 use Rattle.refusal.specs.Numbers.{numberOf}
 use Rattle.refusal.specs.Answer.{Answer, value, refused, Outcome}
 use Rattle.refusal.specs.Settled.{Made, byValue, byRefusal, settled, one-verdict}
 use Rattle.refusal.specs.Verdicts.{verdictMeans}
 use Rattle.line.specs.declared.Lines.{Lines}
 use Rattle.laying.specs.declared.Candidates.{Candidates}
-use Rattle.background.specs.declared.CandidatesAnswer.{CandidatesAnswer}
-use Rattle.background.specs.declared.CandidatesAnswer.the-variants.{Is, Refused}
-use Rattle.background.specs.declared.LinesAnswer.{LinesAnswer}
+use Rattle.laying.specs.declared.CandidatesAnswer.{CandidatesAnswer}
+use Rattle.laying.specs.declared.CandidatesAnswer.the-variants.{Is, Refused}
+use Rattle.laying.specs.declared.LinesAnswer.{LinesAnswer}
 
 abbrev pub candidatesMean : CandidatesAnswer → Answer Candidates
 candidatesMean (Is c) = value c
