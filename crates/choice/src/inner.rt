@@ -13,7 +13,7 @@ ghost use Rattle.choice.specs.Choice.{searchStart, placedAt, blankPlace,
 // The places of the list.
 const MAX_SPRITES: usize = 32;
 // The tiles that a row can fetch.
-const MAX_TILES: usize = 34;
+pub const MAX_TILES: usize = 34;
 
 // The number of the sprite that the search starts at.
 fn search_start(oamadd: u16) -> u8

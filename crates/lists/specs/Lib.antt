@@ -3,3 +3,4 @@ pub mod Filling
 pub mod Keep
 pub mod Runs
 pub mod Places
+pub mod Each

@@ -6,8 +6,11 @@ use mathlib.Core.Logic.{⊎-elim}
 use native.Mathlib.Omega.{arith}
 use native.Mathlib.Nat.{add-zero, add-suc, eq-or-lt-of-le}
 use native.Mathlib.Numerals.{add-one}
-use lib.ListN.{length, getD, length-append, List·getD-append}
-use lib.Seq.{getD-at, ext-getD}
+use lib.ListN.{length, getD, set, replicate, length-append, length-set, length-replicate, getD-replicate, List·getD-append}
+use lib.Seq.{getD-at, ext-getD, getD-set-same, getD-set-other}
+use lib.Dec.{eqb}
+use borrow.Author.Tests.{eqb-true, eqb-false}
+use mathlib.Core.Bool.{Bool, true, false}
 
 -- f 0, f 1, up to f (n - 1)
 unfoldable pub tab : {A : Type 0} → ℕ → (ℕ → A) → List A
@@ -56,3 +59,24 @@ pub by-getD : {A : Type 0} (n : ℕ) (f : ℕ → A) (l : List A) (d : A) → le
     ((x : ℕ) → x < n → getD l x d ≡ f x) → l ≡ tab n f
 by-getD n f l d e h =
     ext-getD d l (tab n f) (e ∙ sym (length-tab f n)) (λ x b. let c : x < n = omega arith in h x c ∙ sym (getD-tab f n x d c))
+
+-- an array filled with one element
+pub tab-same : {A : Type 0} (n : ℕ) {a b : A} → a ≡ b → replicate n a ≡ tab n (λ x. b)
+tab-same n {a} {b} e = by-getD n (λ x. b) (replicate n a) b (length-replicate n a) (λ x h. getD-replicate n x a b h ∙ e)
+
+-- one element of the list by a rule is set: the list by another rule that has it there and agrees elsewhere
+pub tab-set : {A : Type 0} (n : ℕ) (f g : ℕ → A) (j : ℕ) (a : A) → j < n → a ≡ g j →
+    ((x : ℕ) → x < n → (x ≡ j → ⊥) → f x ≡ g x) → set (tab n f) j a ≡ tab n g
+tab-set n f g j a h e o =
+    by-getD n g (set (tab n f) j a) a (length-set (tab n f) j a ∙ length-tab f n)
+    (λ x b. by-cases x b (eqb x j) refl)
+  where
+    by-cases : (x : ℕ) → x < n → (t : Bool) → eqb x j ≡ t → getD (set (tab n f) j a) x a ≡ g x
+    by-cases x b true d =
+        let same : x ≡ j = eqb-true x j d in
+        let long : j < length (tab n f) = rw (length-tab f n) h in
+        ap (λ (i : ℕ). getD (set (tab n f) j a) i a) same
+        ∙ (getD-set-same (tab n f) j a a long ∙ (e ∙ ap g (sym same)))
+    by-cases x b false d =
+        let apart : x ≡ j → ⊥ = eqb-false x j d in
+        getD-set-other (tab n f) j x a a apart ∙ (getD-tab f n x a b ∙ o x b apart)

@@ -1,11 +1,11 @@
--- A sprite is 8 to 64 wide and high: one computed test of the table, and a law that turns it into the bounds at each
+-- A sprite is 8 to 64 wide and high, and whole tiles wide: one computed test of the table, and a law that turns it into the bounds at each
 -- setting.
-use Prim.Native.Nat.{ℕ, zero, suc, _/_, _<_, _≤_}
+use Prim.Native.Nat.{ℕ, zero, suc, _/_, _%_, _<_, _≤_}
 use mathlib.Core.Path.{_≡_}
 use mathlib.Core.Bool.{Bool, true, false, _&&_}
 use mathlib.Core.List.{List, [], _∷_}
 use native.Mathlib.Omega.{arith}
-use lib.Dec.{T, leb, leb→le}
+use lib.Dec.{T, leb, eqb, leb→le, eqb→eq}
 use lib.Ieee.Fits.{and-l, and-r}
 use lib.ListN.{length, getD}
 use Rattle.oam.specs.declared.SpriteSize.{SpriteSize}
@@ -16,7 +16,7 @@ abbrev between : ℕ → Bool
 between n = leb 8 n && leb n 64
 
 abbrev fair : SpriteSize → Bool
-fair s = between (s .width) && between (s .height)
+fair s = between (s .width) && (between (s .height) && eqb (s .width % 8) 0)
 
 abbrev all : List Sizes → Bool
 all [] = true
@@ -24,13 +24,15 @@ all (p ∷ l) = (fair (p .small) && fair (p .large)) && all l
 
 is-fair : (s : SpriteSize) → T (fair s) → Sized s
 is-fair s t =
-    let w = and-l (between (s .width)) (between (s .height)) t in
-    let h = and-r (between (s .width)) (between (s .height)) t in
+    let w = and-l (between (s .width)) (between (s .height) && eqb (s .width % 8) 0) t in
+    let r = and-r (between (s .width)) (between (s .height) && eqb (s .width % 8) 0) t in
+    let h = and-l (between (s .height)) (eqb (s .width % 8) 0) r in
     record {
       wide = leb→le 8 (s .width) (and-l (leb 8 (s .width)) (leb (s .width) 64) w);
       narrow = leb→le (s .width) 64 (and-r (leb 8 (s .width)) (leb (s .width) 64) w);
       high = leb→le 8 (s .height) (and-l (leb 8 (s .height)) (leb (s .height) 64) h);
       low = leb→le (s .height) 64 (and-r (leb 8 (s .height)) (leb (s .height) 64) h);
+      whole = eqb→eq (s .width % 8) 0 (and-r (between (s .height)) (eqb (s .width % 8) 0) r);
     }
 
 at : (l : List Sizes) → T (all l) → (i : ℕ) → i < length l →

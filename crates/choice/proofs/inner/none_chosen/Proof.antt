@@ -1,6 +1,5 @@
 use Rattle.choice.proofs.Search.{none-is}
 use Rattle.choice.specs.Choice.{noneChosen}
-use Rattle.choice.specs.declared.Chosen.{Chosen}
 use Rattle.choice.specs.declared.VisibleSprite.{VisibleSprite}
 use mathlib.Core.List.{List}
 use mathlib.Core.Bool.{false}

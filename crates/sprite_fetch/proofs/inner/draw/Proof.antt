@@ -1,0 +1,201 @@
+use Prim.Native.Nat.{ℕ, _+_, _-_, _%_, _≤_}
+use mathlib.Core.Path.{_≡_, sym, _∙_}
+use native.Mathlib.Omega.{arith}
+use borrow.Author.Needs.{needs}
+use denote.Ref.{now}
+use lib.ListN.{length, getD, set, take}
+use Rattle.lists.specs.Tab.{tab}
+use Rattle.lists.specs.Filling.{long-field}
+use Rattle.line.specs.declared.Candidate.{Candidate}
+use Rattle.line.specs.Pixels.{none}
+use Rattle.sprite_tile.specs.Tile.{pixelOf}
+use Rattle.sprite_tile.specs.Slices.{Sound, sliceIndex}
+use Rattle.sprite_tile.proofs.Laws.{colours-length}
+use Rattle.sprite_tile.specs.declared.Slice.{Slice}
+use Rattle.sprite_fetch.specs.Walk.{blankSlice, drawnAll, drawnLine}
+use Rattle.sprite_fetch.proofs.Draws.{after, after-none, beyond, clear, drawn, drawn-none, drawn-more}
+use Rattle.sprite_fetch.proofs.inner.draw.Statement.{statement}
+use Rattle.sprite_fetch.proofs.inner.draw.Tie as tie
+
+abbrev Inv-loop2 : tie.InvT-loop2
+Inv-loop2 vram cgram f line₀ i s z colors k₀ i-end line k =
+    (line ≡ tab 256 (after vram cgram s (λ x. drawnAll vram cgram (take i (f .slices)) x none) k)) × (k ≤ 8)
+
+abbrev μ-loop2 : tie.MeasureT-loop2
+μ-loop2 vram cgram f line₀ i s z colors k₀ i-end line k = 8 - k
+
+abbrev Inv-loop : tie.InvT-loop
+Inv-loop vram cgram f line₀ i₀ i-end line i =
+    (line ≡ drawnLine vram cgram (take i (f .slices))) × (i ≤ i-end)
+
+abbrev μ-loop : tie.MeasureT-loop
+μ-loop vram cgram f line₀ i₀ i-end line i = i-end - i
+
+-- where the loops began, from inside the outer loop
+abbrev start : tie.In-loop Inv-loop2 μ-loop2 Inv-loop μ-loop → tie.Start Inv-loop2 μ-loop2 Inv-loop μ-loop
+start c = c .before .before .before .before .before
+
+-- the tile of this turn, and what the columns held before it
+abbrev slice : tie.In-loop Inv-loop2 μ-loop2 Inv-loop μ-loop → Slice
+slice c = getD (start c .args .t1 .slices) (c .before .loop .i) blankSlice
+
+abbrev held : tie.In-loop Inv-loop2 μ-loop2 Inv-loop μ-loop → ℕ → Candidate
+held c x = drawnAll (now (start c .args .vram)) (now (start c .args .cgram)) (take (c .before .loop .i) (start c .args .t1 .slices)) x none
+
+whole : (c : tie.Start Inv-loop2 μ-loop2 Inv-loop μ-loop) → length (c .args .t1 .slices) ≡ 34
+whole c = search (needs, long-field)
+
+is-sound : (c : tie.In-loop Inv-loop2 μ-loop2 Inv-loop μ-loop) → Sound (slice c)
+is-sound c = start c .pre .1 .1 (c .before .loop .i) (omega arith)
+
+loop-holds : tie.Need-loop-holds Inv-loop2 μ-loop2 Inv-loop μ-loop
+loop-holds c =
+    let a = c .before .before .before .args in
+    (drawn-none (now (a .vram)) (now (a .cgram)) (c .none .ensures), omega arith)
+
+mul-s : tie.Need-mul-s Inv-loop2 μ-loop2 Inv-loop μ-loop
+mul-s c = omega arith
+
+element-copy-out-s : tie.Need-element-copy-out-s Inv-loop2 μ-loop2 Inv-loop μ-loop
+element-copy-out-s c = omega (arith, whole (start c))
+
+palette-requires : tie.Need-palette-requires Inv-loop2 μ-loop2 Inv-loop μ-loop
+palette-requires c κs =
+    let o = c .before .before in
+    (start o .pre .0, is-sound o .palette-in)
+
+loop2-holds : tie.Need-loop2-holds Inv-loop2 μ-loop2 Inv-loop μ-loop
+loop2-holds c =
+    let o = c .before .before .before in
+    let a = start o .args in
+    (o .before .loop .inv .0 ∙ after-none (now (a .vram)) (now (a .cgram)) (slice o) (held o), omega arith)
+
+cast-x : tie.Need-cast-x Inv-loop2 μ-loop2 Inv-loop μ-loop
+cast-x c = omega arith
+
+add-x : tie.Need-add-x Inv-loop2 μ-loop2 Inv-loop μ-loop
+add-x c = omega arith
+
+add-k : tie.Need-add-k Inv-loop2 μ-loop2 Inv-loop μ-loop
+add-k c = omega arith
+
+loop2-less : tie.Need-loop2-less Inv-loop2 μ-loop2 Inv-loop μ-loop
+loop2-less c = omega arith
+
+loop2-again : tie.Need-loop2-again Inv-loop2 μ-loop2 Inv-loop μ-loop
+loop2-again c =
+    let i2 = c .before .before in
+    let l = i2 .before .loop2 in
+    let o = i2 .before .before .before .before .before in
+    let a = start o .args in
+    (l .inv .0 ∙ beyond (now (a .vram)) (now (a .cgram)) (slice o) (held o) (l .k) (is-sound o .nine) (i2 .loop2-test .taken) (c .if1 .taken), omega arith)
+
+index-requires : tie.Need-index-requires Inv-loop2 μ-loop2 Inv-loop μ-loop
+index-requires c κs =
+    let i2 = c .before .before in
+    (is-sound (i2 .before .before .before .before .before), i2 .loop2-test .taken)
+
+add-k-2 : tie.Need-add-k-2 Inv-loop2 μ-loop2 Inv-loop μ-loop
+add-k-2 c = omega arith
+
+loop2-less-2 : tie.Need-loop2-less-2 Inv-loop2 μ-loop2 Inv-loop μ-loop
+loop2-less-2 c = omega arith
+
+loop2-again-2 : tie.Need-loop2-again-2 Inv-loop2 μ-loop2 Inv-loop μ-loop
+loop2-again-2 c =
+    let x = c .before in
+    let i2 = x .before .before .before in
+    let l = i2 .before .loop2 in
+    let o = i2 .before .before .before .before .before in
+    let a = start o .args in
+    (l .inv .0 ∙ clear (now (a .vram)) (now (a .cgram)) (slice o) (held o) (l .k) (sym (x .index .ensures .0) ∙ c .if2 .taken), omega (arith, i2 .loop2-test .taken))
+
+pixel-requires : tie.Need-pixel-requires Inv-loop2 μ-loop2 Inv-loop μ-loop
+pixel-requires c κs =
+    let x = c .before in
+    let p = x .before .before .before .before .before in
+    let o = p .before .before .before in
+    (rw (p .palette .ensures) (colours-length (now (start o .args .cgram)) (slice o .palette) (start o .pre .0) (is-sound o .palette-in)), x .index .ensures .1)
+
+mul-line : tie.Need-mul-line Inv-loop2 μ-loop2 Inv-loop μ-loop
+mul-line c = omega arith
+
+add-k-3 : tie.Need-add-k-3 Inv-loop2 μ-loop2 Inv-loop μ-loop
+add-k-3 c = omega arith
+
+loop2-less-3 : tie.Need-loop2-less-3 Inv-loop2 μ-loop2 Inv-loop μ-loop
+loop2-less-3 c = omega arith
+
+loop2-again-3 : tie.Need-loop2-again-3 Inv-loop2 μ-loop2 Inv-loop μ-loop
+loop2-again-3 c =
+    let e = c .before in
+    let x = e .before in
+    let i2 = x .before .before .before in
+    let l = i2 .before .loop2 in
+    let p = i2 .before .before in
+    let o = p .before .before .before in
+    let a = start o .args in
+    let v = now (a .vram) in
+    let g = now (a .cgram) in
+    let s = slice o in
+    let j = (s .«tile_x» + l .k) % 512 in
+    let is = c .pixel .ensures ∙ (λ i. pixelOf (p .palette .ensures i) (s .palette) (s .z) (x .index .ensures .0 i)) in
+    let opaque : sliceIndex v s (l .k) ≡ 0 → ⊥ = λ z. e .if2 .left (x .index .ensures .0 ∙ z) in
+    ((λ i. set (l .inv .0 i) j (is i)) ∙ drawn v g s (held o) (l .k) (is-sound o .nine) (i2 .loop2-test .taken) (x .before .if1 .left) opaque, omega (arith, i2 .loop2-test .taken))
+
+add-i : tie.Need-add-i Inv-loop2 μ-loop2 Inv-loop μ-loop
+add-i c = omega arith
+
+loop-less : tie.Need-loop-less Inv-loop2 μ-loop2 Inv-loop μ-loop
+loop-less c = omega arith
+
+loop-again : tie.Need-loop-again Inv-loop2 μ-loop2 Inv-loop μ-loop
+loop-again c =
+    let l = c .before .loop2 in
+    let o = c .before .before .before .before .before in
+    let a = start o .args in
+    let v = now (a .vram) in
+    let g = now (a .cgram) in
+    let n : l .k ≡ 8 = omega (arith, l .inv .1, c .loop2-test .left) in
+    (l .inv .0 ∙ ((λ i. tab 256 (after v g (slice o) (held o) (n i))) ∙ drawn-more v g (a .t1 .slices) (o .before .loop .i) (omega (arith, whole (start o)))), omega (arith, o .loop-test .taken))
+
+returns : tie.Need-returns Inv-loop2 μ-loop2 Inv-loop μ-loop
+returns c =
+    let l = c .before .loop in
+    let a = c .before .before .before .before .before .args in
+    let n : l .i ≡ a .t1 .count = omega arith in
+    l .inv .0 ∙ (λ i. drawnLine (now (a .vram)) (now (a .cgram)) (take (n i) (a .t1 .slices)))
+
+pub draw-spec : {M : Type 1} → statement M
+draw-spec =
+    tie.close
+    (tie.spec
+    Inv-loop2
+    μ-loop2
+    Inv-loop
+    μ-loop
+    (λ c κs. search needs)
+    loop-holds
+    mul-s
+    element-copy-out-s
+    palette-requires
+    loop2-holds
+    cast-x
+    add-x
+    add-k
+    loop2-less
+    loop2-again
+    index-requires
+    add-k-2
+    loop2-less-2
+    loop2-again-2
+    pixel-requires
+    mul-line
+    (λ c. search needs)
+    add-k-3
+    loop2-less-3
+    loop2-again-3
+    add-i
+    loop-less
+    loop-again
+    returns)

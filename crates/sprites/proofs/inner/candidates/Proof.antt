@@ -1,0 +1,32 @@
+use denote.Ref.{now}
+use mathlib.Core.Path.{_∙_}
+use lib.ListN.{getD}
+use Rattle.lists.specs.Tab.{getD-tab}
+use Rattle.line.specs.Pixels.{none}
+use Rattle.laying.specs.Laying.{candidatesOf}
+use Rattle.sprites.specs.Sprites.{spritePixel}
+use borrow.Author.Needs.{needs}
+use Rattle.sprites.proofs.inner.candidates.Statement.{statement}
+use Rattle.sprites.proofs.inner.candidates.Tie as tie
+
+returns : tie.Need-returns
+returns c =
+    let w = c .before in
+    let l = w .before .before in
+    let s = l .before .before .before .before in
+    let a = s .args in
+    let at =
+    (λ i. getD (l .line .ensures i) (a .x) none)
+    ∙ getD-tab (spritePixel (now (a .vram)) (now (a .cgram)) (now (a .oam)) (a .r) (a .y)) 256 (a .x) none (s .pre .1) in
+    c .on-screens .ensures ∙ (λ i. candidatesOf (w .shown .ensures i) (a .x) (at i))
+
+pub candidates-spec : {M : Type 1} → statement M
+candidates-spec =
+    tie.close
+    (tie.spec
+    (λ c κs. search needs)
+    (λ c. search needs)
+    (λ c. search needs)
+    (λ c κs. search needs)
+    (λ c κs. search needs)
+    returns)

@@ -1,0 +1,40 @@
+use lib.ListN.{length}
+use denote.Ref.{now}
+use mathlib.Core.Path.{_≡_, sym, _∙_}
+use Rattle.lists.specs.Filling.{long-field}
+use Rattle.laying.specs.Laying.{layLines, rowOf}
+use Rattle.laying.specs.Unlit.{unlit-lays-nothing}
+use Rattle.laying.proofs.Screens.{lay-row}
+use Rattle.sprites.specs.Sprites.{spritePixel, shownOf}
+use Rattle.sprites.proofs.Listed.{neither}
+use borrow.Author.Needs.{needs}
+use Rattle.sprites.proofs.inner.lay.Statement.{statement}
+use Rattle.sprites.proofs.inner.lay.Tie as tie
+    -- the lines have their 256 pixels
+
+long-main : (c : tie.Start) → length (c .args .lines .main) ≡ 256
+long-main c = search (needs, long-field)
+
+long-sub : (c : tie.Start) → length (c .args .lines .sub) ≡ 256
+long-sub c = search (needs, long-field)
+
+returns : tie.Need-returns
+returns c =
+    let w = c .before .before .before in
+    let s = w .before .before .before .before in
+    let a = s .args in
+    let pixel = spritePixel (now (a .vram)) (now (a .cgram)) (now (a .oam)) (a .r) (a .y) in
+    let unlit = neither _ _ (c .if1 .taken) in
+    sym (unlit-lays-nothing (shownOf (a .r)) pixel (a .lines) (sym (λ i. w .shown .ensures i .«to_main») ∙ unlit .0) (sym (λ i. w .shown .ensures i .«to_sub») ∙ unlit .1) (long-main s) (long-sub s))
+
+returns-2 : tie.Need-returns-2
+returns-2 c =
+    let l = c .before in
+    let w = l .before .before .before .before in
+    let a = w .before .before .before .before .args in
+    let pixel = spritePixel (now (a .vram)) (now (a .cgram)) (now (a .oam)) (a .r) (a .y) in
+    c .lay .ensures
+    ∙ ((λ i. layLines (w .shown .ensures i) (rowOf (l .line .ensures i)) (a .lines)) ∙ lay-row (shownOf (a .r)) pixel (a .lines))
+
+pub lay-spec : {M : Type 1} → statement M
+lay-spec = tie.close (tie.spec (λ c κs. search needs) returns (λ c κs. search needs) (λ c κs. search needs) returns-2)

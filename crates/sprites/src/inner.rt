@@ -1,0 +1,103 @@
+// What the public calls of this crate stand on, for the crates above.
+use choice::inner::choose;
+use laying::Candidates;
+use laying::Shown;
+use line::Candidate;
+use line::Lines;
+use registers::PPURegisters;
+use registers::inner::bit;
+use sprite_fetch::inner::draw;
+use sprite_fetch::inner::fetch;
+use sprite_tile::View;
+ghost use mathlib.Core.Path.{_≡_};
+ghost use Prim.Native.Nat.{_<_};
+ghost use lib.ListN.{length};
+ghost use Rattle.lists.specs.Tab.{tab};
+ghost use Rattle.laying.specs.Laying.{candidatesOf, layLines};
+ghost use Rattle.sprites.specs.Sprites.{Sound, viewOf, spritePixel, shownOf, emptyLine};
+
+// The sprites' bit of tm, ts, tmw and tsw.
+const OBJ: usize = 4;
+
+// A line with no pixel.
+pub fn empty() -> [Candidate; 256]
+    ensures { λ r. ⌜ r ≡ emptyLine ⌝ }
+{
+    let none = Candidate::none();
+    [none; 256]
+}
+
+// What the sprites of row y are seen by.
+fn view(r: PPURegisters, y: usize) -> View
+    requires { ⌜ y < 224 ⌝ }
+    ensures { λ w. ⌜ w ≡ viewOf r y ⌝ }
+{
+    let obj_interlace = r.obj_interlace();
+    View {
+        objsel: r.objsel,
+        row: y as u8,
+        obj_interlace,
+        field: r.field,
+    }
+}
+
+// The sprite line: the sprites are chosen, their tiles fetched and drawn.
+pub fn line(vram: &[u16], cgram: &[u16], oam: &[u8], r: PPURegisters, y: usize) -> [Candidate; 256]
+    requires { ⌜ Sound (length (now cgram)) (length (now oam)) y ⌝ }
+    ensures { λ l. ⌜ l ≡ tab 256 (spritePixel (now (vram .entry)) (now (cgram .entry)) (now (oam .entry)) r y) ⌝ }
+{
+    let view = view(r, y);
+    let chosen = choose(oam, view.row, view.objsel, r.oamadd, view.obj_interlace);
+    let f = fetch(chosen, view);
+    draw(f, vram, cgram)
+}
+
+// Where the sprites are shown.
+fn shown(r: PPURegisters) -> Shown
+    ensures { λ s. ⌜ s ≡ shownOf r ⌝ }
+{
+    let window = windows::inner::obj_window(r);
+    Shown {
+        to_main: bit(r.tm, OBJ),
+        to_sub: bit(r.ts, OBJ),
+        win_main: bit(r.tmw, OBJ),
+        win_sub: bit(r.tsw, OBJ),
+        window,
+    }
+}
+
+// The candidates at column x of row y.
+pub fn candidates(
+    vram: &[u16],
+    cgram: &[u16],
+    oam: &[u8],
+    r: PPURegisters,
+    x: usize,
+    y: usize,
+) -> Candidates
+    requires { ⌜ Sound (length (now cgram)) (length (now oam)) y × (x < 256) ⌝ }
+    ensures { λ c. ⌜ c ≡ candidatesOf (shownOf r) x (spritePixel (now (vram .entry)) (now (cgram .entry)) (now (oam .entry)) r y x) ⌝ }
+{
+    let line = line(vram, cgram, oam, r, y);
+    laying::on_screens(line[x], shown(r), x)
+}
+
+// Both lines after the sprites are laid. Where neither screen lights them, nothing is drawn.
+pub fn lay(
+    lines: Lines,
+    vram: &[u16],
+    cgram: &[u16],
+    oam: &[u8],
+    r: PPURegisters,
+    y: usize,
+) -> Lines
+    requires { ⌜ Sound (length (now cgram)) (length (now oam)) y ⌝ }
+    ensures { λ o. ⌜ o ≡ layLines (shownOf r) (spritePixel (now (vram .entry)) (now (cgram .entry)) (now (oam .entry)) r y) lines ⌝ }
+{
+    let shown = shown(r);
+    if !shown.to_main & !shown.to_sub {
+        return lines;
+    }
+    let line = line(vram, cgram, oam, r, y);
+    laying::lay(lines, line, shown)
+}
