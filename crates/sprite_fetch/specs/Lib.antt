@@ -1,3 +1,4 @@
 pub mod Fetch
 pub mod Turns
 pub mod Walk
+pub mod Wins

@@ -1,2 +1,3 @@
 pub mod Sprites
 pub mod Answers
+pub mod Edges
