@@ -1,7 +1,7 @@
 -- What a screen shows of a layer.
 use Prim.Native.Nat.{ℕ}
 use mathlib.Core.Path.{_≡_, refl, sym, ap, _∙_}
-use mathlib.Core.Bool.{Bool, true, false, _&&_, _||_, not, false≢true}
+use mathlib.Core.Bool.{Bool, true, false, cond, _&&_, _||_, not, false≢true}
 use mathlib.Core.List.{List}
 use lib.ListN.{getD}
 use Rattle.lists.specs.Tab.{tab, tab-ext, getD-tab}
@@ -64,3 +64,24 @@ row-line shown c line =
 pub lay-row : (s : Shown) (c : ℕ → Candidate) (lines : Lines) → layLines s (rowOf (tab 256 c)) lines ≡ layLines s c lines
 lay-row s c lines =
     λ i. record { main = row-line (onMain s) c (lines .main) i; sub = row-line (onSub s) c (lines .sub) i }
+
+-- a column that is clear, or barred, keeps its pixel
+pub clear-kept : (h : LinePixel) (shown : Bool) (c : Candidate) → c .opaque ≡ false → h ≡ deposited h (onScreen shown c)
+clear-kept h shown c e = sym (ap (λ (o : Bool). deposited h (cond (o && shown) c none)) e)
+
+never : (a : Bool) → a && false ≡ false
+never true = refl
+never false = refl
+
+pub barred-kept : (h : LinePixel) (lit : Bool) (c : Candidate) {barred : Bool} → barred ≡ true →
+    h ≡ deposited h (onScreen (lit && not barred) c)
+barred-kept h lit c e =
+    sym
+    (ap (λ (b : Bool). deposited h (onScreen (lit && not b) c)) e
+    ∙ (ap (λ (s : Bool). deposited h (cond (c .opaque && s) c none)) (never lit)
+    ∙ ap (λ (s : Bool). deposited h (cond s c none)) (never (c .opaque))))
+
+-- and one that is opaque, lit and not barred is laid
+pub laid-shown : (h : LinePixel) (c : Candidate) {lit barred : Bool} → lit ≡ true → c .opaque ≡ true → barred ≡ false →
+    deposited h c ≡ deposited h (onScreen (lit && not barred) c)
+laid-shown h c l o b = sym (λ i. deposited h (cond (o i && (l i && not (b i))) c none))

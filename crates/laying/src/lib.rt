@@ -58,3 +58,14 @@ pub fn lay(lines: Lines, row: [Candidate; 256], s: Shown) -> Lines
     let sub = inner::lay_screen(under, row, s.to_sub, s.win_sub, mask);
     Lines { main, sub }
 }
+
+// The same of a row that has few opaque columns: it takes its time by those.
+pub fn lay_few(lines: Lines, row: [Candidate; 256], s: Shown) -> Lines
+    ensures { λ r. ⌜ r ≡ layLines s (rowOf row) lines ⌝ }
+{
+    let over = lines.main;
+    let under = lines.sub;
+    let main = inner::lay_few(over, row, s.to_main, s.win_main, s.window);
+    let sub = inner::lay_few(under, row, s.to_sub, s.win_sub, s.window);
+    Lines { main, sub }
+}

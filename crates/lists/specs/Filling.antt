@@ -42,6 +42,17 @@ module _ {A : Type 0} where
               rw (i .is, add-one x, drop-cons l x a, set-at (tab x f) (getD l x a) (drop (suc x) l) a x (length-tab f x), e, append-assoc);
         }
 
+    -- a turn that writes nothing, where the element is the rule's already
+    pub filled-kept : {out : List A} {x : ℕ} → Filled n f l out x → x < n → (d : A) → getD l x d ≡ f x → Filled n f l out (x + 1)
+    unfolding tab
+    filled-kept {out} {x} i h d e =
+        let below : x < length l = omega arith in
+        record {
+          long = i .long;
+          within = omega arith;
+          is = i .is ∙ rw (add-one x, drop-cons l x d, e, append-assoc);
+        }
+
     -- the end
     pub filled-all : {out : List A} {x : ℕ} → Filled n f l out x → n ≤ x → out ≡ tab n f
     filled-all {out} {x} i h =

@@ -99,5 +99,5 @@ pub fn lay(
         return lines;
     }
     let line = line(vram, cgram, oam, r, y);
-    laying::lay(lines, line, shown)
+    laying::lay_few(lines, line, shown)
 }

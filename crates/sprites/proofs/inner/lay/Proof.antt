@@ -33,7 +33,7 @@ returns-2 c =
     let w = l .before .before .before .before in
     let a = w .before .before .before .before .args in
     let pixel = spritePixel (now (a .vram)) (now (a .cgram)) (now (a .oam)) (a .r) (a .y) in
-    c .lay .ensures
+    c .lay-few .ensures
     ∙ ((λ i. layLines (w .shown .ensures i) (rowOf (l .line .ensures i)) (a .lines)) ∙ lay-row (shownOf (a .r)) pixel (a .lines))
 
 pub lay-spec : {M : Type 1} → statement M
