@@ -12,6 +12,7 @@ use Rattle.line.specs.declared.Candidate.{Candidate}
 use Rattle.line.specs.declared.Lines.{Lines}
 use Rattle.line.specs.Pixels.{noPixel, none, deposited}
 use Rattle.laying.specs.declared.Shown.{Shown}
+use Rattle.laying.specs.Unlit.{never}
 use Rattle.laying.specs.Laying.{shownAt, onMain, onSub, onScreen, layLine, layLines, rowOf, marked}
 
 -- a mask that is not made, and one that is
@@ -68,10 +69,6 @@ lay-row s c lines =
 -- a column that is clear, or barred, keeps its pixel
 pub clear-kept : (h : LinePixel) (shown : Bool) (c : Candidate) → c .opaque ≡ false → h ≡ deposited h (onScreen shown c)
 clear-kept h shown c e = sym (ap (λ (o : Bool). deposited h (cond (o && shown) c none)) e)
-
-never : (a : Bool) → a && false ≡ false
-never true = refl
-never false = refl
 
 pub barred-kept : (h : LinePixel) (lit : Bool) (c : Candidate) {barred : Bool} → barred ≡ true →
     h ≡ deposited h (onScreen (lit && not barred) c)
