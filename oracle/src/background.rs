@@ -1,19 +1,16 @@
 //! The list `background`: rows of scenes in which one background alone is lit.
 //!
 //! The lines of both screens are private in the Rust, so a row is drawn for each thing that is asked
-//! of them. Brightness 15 keeps each channel in its byte's high bits.
+//! of them.
 
 use crate::generator::Generator;
 use crate::oam::fold;
-use rust_ppu::ppu::PPU;
-use rust_ppu::rendering::renderer::Renderer;
+use crate::screen::{Row, Screen, bytes, column_of};
 
 const SCENES: u32 = 160;
 /// The rows of a scene, and the columns that are asked in each.
 const ROWS: u32 = 4;
 const COLUMNS: u32 = 6;
-
-type Row = [u16; 256];
 
 pub fn list() -> String {
     let mut screen = Screen::new();
@@ -26,11 +23,6 @@ pub fn list() -> String {
         out += &screen.scene(n, &mut numbers);
     }
     out
-}
-
-/// The low byte of a word, then its high byte.
-fn bytes(word: u16) -> [u8; 2] {
-    word.to_le_bytes()
 }
 
 /// Mode 0, mode 3, mode 1 and one of the modes that draw as mode 1, in turn.
@@ -70,15 +62,6 @@ fn row_of(k: u32, drawn: u32) -> u32 {
     }
 }
 
-/// The first column, the last one and any.
-fn column_of(k: u32, drawn: u32) -> u32 {
-    match k {
-        0 => 0,
-        1 => 255,
-        _ => drawn % 256,
-    }
-}
-
 /// The lines of a row: the colours of both, and the background that each pixel of main came from, 4
 /// for none.
 struct Lines {
@@ -95,21 +78,7 @@ impl Lines {
     }
 }
 
-struct Screen {
-    ppu: PPU,
-    renderer: Renderer,
-}
-
 impl Screen {
-    fn new() -> Screen {
-        let mut ppu = PPU::new();
-        ppu.regs.inidisp = 15;
-        Screen {
-            ppu,
-            renderer: Renderer::new(),
-        }
-    }
-
     /// VRAM and colour memory.
     fn fill(&mut self, numbers: &mut Generator) {
         for (i, word) in self.ppu.vram.memory.iter_mut().enumerate() {
@@ -119,20 +88,6 @@ impl Screen {
         for word in self.ppu.cgram.memory.iter_mut() {
             *word = numbers.word();
         }
-    }
-
-    /// The row, with these bits of cgwsel beside direct colour's, and this cgadsub.
-    fn drawn(&mut self, y: u32, cgwsel: u8, cgadsub: u8) -> Row {
-        let kept = self.ppu.regs.cgwsel;
-        self.ppu.regs.cgwsel |= cgwsel;
-        self.ppu.regs.cgadsub = cgadsub;
-        self.renderer.render_scanline(&self.ppu, y as usize);
-        self.ppu.regs.cgwsel = kept;
-        std::array::from_fn(|x| {
-            let at = (y as usize * 256 + x) * 3;
-            let channel = |i: usize| (self.renderer.framebuffer[at + i] >> 3) as u16;
-            channel(0) | channel(1) << 5 | channel(2) << 10
-        })
     }
 
     /// Main is shown without colour math. Sub is added to a main that is kept nowhere, and so black.

@@ -95,12 +95,12 @@ fn edge(k: u16, any: u16) -> u16 {
 }
 
 /// A column at an edge or one beside it, of the first `edges` edges.
-fn beside(edges: u16, a: u16, b: u16) -> u16 {
+pub fn beside(edges: u16, a: u16, b: u16) -> u16 {
     (edge(a % edges, b % 512) + 511 + a / 8 % 3) % 512
 }
 
 /// Writes a sprite: column, top; tile and attributes from d; size.
-fn put(bytes: &mut Bytes, i: usize, x9: u16, top: u16, d: u16, large: bool) {
+pub fn put(bytes: &mut Bytes, i: usize, x9: u16, top: u16, d: u16, large: bool) {
     bytes[i * 4] = (x9 % 256) as u8;
     bytes[i * 4 + 1] = (top % 256) as u8;
     bytes[i * 4 + 2] = (d % 256) as u8;

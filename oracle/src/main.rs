@@ -8,6 +8,8 @@ mod oam;
 mod outside;
 mod port;
 mod registers;
+mod screen;
+mod sprites;
 mod tiles;
 
 use std::env;
@@ -24,10 +26,11 @@ fn main() -> ExitCode {
         ["choice"] => choice::list(),
         ["port"] => port::list(),
         ["background"] => background::list(),
+        ["sprites"] => sprites::list(),
         ["outside"] => outside::list(),
         _ => {
             eprintln!(
-                "usage: oracle colour | tiles | registers | oam | choice | port | background | outside"
+                "usage: oracle colour | tiles | registers | oam | choice | port | background | sprites | outside"
             );
             return ExitCode::from(2);
         }

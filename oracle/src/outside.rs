@@ -155,6 +155,14 @@ fn sprites() -> String {
             (visible.len(), time_over, range_over)
         });
     }
+    let mut ppu = PPU::new();
+    ppu.regs.tm = 0x10;
+    ppu.oam = oam;
+    for row in [224, 356] {
+        out += &line(&format!("render_sprites row {row}"), || {
+            Renderer::new().render_sprites(&ppu, row)
+        });
+    }
     out
 }
 

@@ -12,7 +12,6 @@ use Rattle.line.specs.declared.Candidate.{Candidate}
 use Rattle.line.specs.declared.Lines.{Lines}
 use Rattle.line.specs.Pixels.{noPixel, none, deposited}
 use Rattle.laying.specs.declared.Shown.{Shown}
-use Rattle.laying.specs.Unlit.{never}
 use Rattle.laying.specs.Laying.{shownAt, onMain, onSub, onScreen, layLine, layLines, rowOf, marked}
 
 -- a mask that is not made, and one that is
@@ -66,19 +65,6 @@ pub lay-row : (s : Shown) (c : ℕ → Candidate) (lines : Lines) → layLines s
 lay-row s c lines =
     λ i. record { main = row-line (onMain s) c (lines .main) i; sub = row-line (onSub s) c (lines .sub) i }
 
--- a column that is clear, or barred, keeps its pixel
+-- a column that is clear keeps its pixel
 pub clear-kept : (h : LinePixel) (shown : Bool) (c : Candidate) → c .opaque ≡ false → h ≡ deposited h (onScreen shown c)
 clear-kept h shown c e = sym (ap (λ (o : Bool). deposited h (cond (o && shown) c none)) e)
-
-pub barred-kept : (h : LinePixel) (lit : Bool) (c : Candidate) {barred : Bool} → barred ≡ true →
-    h ≡ deposited h (onScreen (lit && not barred) c)
-barred-kept h lit c e =
-    sym
-    (ap (λ (b : Bool). deposited h (onScreen (lit && not b) c)) e
-    ∙ (ap (λ (s : Bool). deposited h (cond (c .opaque && s) c none)) (never lit)
-    ∙ ap (λ (s : Bool). deposited h (cond s c none)) (never (c .opaque))))
-
--- and one that is opaque, lit and not barred is laid
-pub laid-shown : (h : LinePixel) (c : Candidate) {lit barred : Bool} → lit ≡ true → c .opaque ≡ true → barred ≡ false →
-    deposited h c ≡ deposited h (onScreen (lit && not barred) c)
-laid-shown h c l o b = sym (λ i. deposited h (cond (o i && (l i && not (b i))) c none))

@@ -13,7 +13,7 @@ use Rattle.line.specs.Pixels.{noPixel, none, deposited}
 use Rattle.laying.specs.declared.Shown.{Shown}
 use Rattle.laying.specs.Laying.{onScreen, candidatesOf, layLine, layLines}
 
-pub never : (a : Bool) → a && false ≡ false
+never : (a : Bool) → a && false ≡ false
 never true = refl
 never false = refl
 

@@ -7,7 +7,7 @@ ghost use mathlib.Core.Bool.{false, _&&_, not};
 ghost use lib.ListN.{getD};
 ghost use Rattle.lists.specs.Tab.{tab};
 ghost use Rattle.window.specs.Window.{masked};
-ghost use Rattle.laying.specs.Laying.{shownAt, onScreen, marked, rowOf, layLine};
+ghost use Rattle.laying.specs.Laying.{onScreen, marked, rowOf, layLine};
 
 // The candidate of a layer that has c, where it is shown.
 pub fn on_screen(c: Candidate, shown: bool) -> Candidate
@@ -76,30 +76,9 @@ pub fn lay_screen(
     line
 }
 
-// The same of a row that has few opaque columns: the others are passed by, and the window is asked
-// at those alone.
-pub fn lay_few(
-    line: [LinePixel; 256],
-    row: [Candidate; 256],
-    lit: bool,
-    win: bool,
-    w: Window,
-) -> [LinePixel; 256]
-    ensures { λ r. ⌜ r ≡ layLine (λ x. onScreen (shownAt lit win w x) (rowOf row x)) line ⌝ }
+// Does the window's mask hold x? It is asked only where it is on.
+pub fn masked_if(w: Window, on: bool, x: usize) -> bool
+    ensures { λ r. ⌜ r ≡ on && masked w x ⌝ }
 {
-    if !lit {
-        return line;
-    }
-    let mut out = line;
-    for x in 0..256 {
-        let c = row[x];
-        if !c.opaque {
-            continue;
-        }
-        if win & w.masked(x) {
-            continue;
-        }
-        out[x] = line::deposit(out[x], c);
-    }
-    out
+    if on { w.masked(x) } else { false }
 }

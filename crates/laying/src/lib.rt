@@ -41,7 +41,7 @@ pub struct LinesAnswer {
 pub fn on_screens(c: Candidate, s: Shown, x: usize) -> Candidates
     ensures { λ r. ⌜ r ≡ candidatesOf s x c ⌝ }
 {
-    let masked = s.window.masked(x);
+    let masked = inner::masked_if(s.window, s.win_main | s.win_sub, x);
     let main = inner::on_screen(c, s.to_main & !(s.win_main & masked));
     let sub = inner::on_screen(c, s.to_sub & !(s.win_sub & masked));
     Candidates { main, sub }
@@ -59,13 +59,22 @@ pub fn lay(lines: Lines, row: [Candidate; 256], s: Shown) -> Lines
     Lines { main, sub }
 }
 
-// The same of a row that has few opaque columns: it takes its time by those.
+// The same of a row that has few opaque columns: the others are passed by.
 pub fn lay_few(lines: Lines, row: [Candidate; 256], s: Shown) -> Lines
     ensures { λ r. ⌜ r ≡ layLines s (rowOf row) lines ⌝ }
 {
-    let over = lines.main;
-    let under = lines.sub;
-    let main = inner::lay_few(over, row, s.to_main, s.win_main, s.window);
-    let sub = inner::lay_few(under, row, s.to_sub, s.win_sub, s.window);
+    let mut main = lines.main;
+    let mut sub = lines.sub;
+    for x in 0..256 {
+        let c = row[x];
+        if !c.opaque {
+            continue;
+        }
+        let seen = on_screens(c, s, x);
+        let over = seen.main;
+        let under = seen.sub;
+        main[x] = line::deposit(main[x], over);
+        sub[x] = line::deposit(sub[x], under);
+    }
     Lines { main, sub }
 }
