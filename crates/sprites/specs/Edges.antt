@@ -39,11 +39,12 @@ module _ (v g : List ℕ) (view : View) (limit : ℕ) (s : Sprite) (later : List
   unfolding fetchedPixel
   nothing-at-256 =
       let o = view .objsel in
+      let n = leaves limit o s later in
       let far : across s x / 8 ≡ (x + 512 - 256) % 512 / 8 = λ i. (x + 512 - at i) % 512 / 8 in
       let u : 8 ≤ across s x / 8 = rw far (omega arith) in
       let e =
       (λ i. among (own-places limit o s later i) (across s x / 8))
-      ∙ off s 8 (across s x / 8) u (take (leaves limit o s later) (countingPlaces o s)) (each-take (λ t. t < 8) (leaves limit o s later) (countingPlaces o s) places) in
+      ∙ off s 8 (across s x / 8) u (take n (countingPlaces o s)) (each-take (λ t. t < 8) n (countingPlaces o s) places) in
       λ i. cond (e i) (pixelIn v g view s (across s x)) none
 
 -- at 505 the first column alone is less than 8 right of the left edge

@@ -53,9 +53,6 @@ loop-holds c =
     let a = c .before .before .before .args in
     (drawn-none (now (a .vram)) (now (a .cgram)) (c .none .ensures), omega arith)
 
-mul-s : tie.Need-mul-s Inv-loop2 μ-loop2 Inv-loop μ-loop
-mul-s c = omega arith
-
 element-copy-out-s : tie.Need-element-copy-out-s Inv-loop2 μ-loop2 Inv-loop μ-loop
 element-copy-out-s c = omega (arith, whole (start c))
 
@@ -70,18 +67,6 @@ loop2-holds c =
     let a = start o .args in
     (o .before .loop .inv .0 ∙ after-none (now (a .vram)) (now (a .cgram)) (slice o) (held o), omega arith)
 
-cast-x : tie.Need-cast-x Inv-loop2 μ-loop2 Inv-loop μ-loop
-cast-x c = omega arith
-
-add-x : tie.Need-add-x Inv-loop2 μ-loop2 Inv-loop μ-loop
-add-x c = omega arith
-
-add-k : tie.Need-add-k Inv-loop2 μ-loop2 Inv-loop μ-loop
-add-k c = omega arith
-
-loop2-less : tie.Need-loop2-less Inv-loop2 μ-loop2 Inv-loop μ-loop
-loop2-less c = omega arith
-
 loop2-again : tie.Need-loop2-again Inv-loop2 μ-loop2 Inv-loop μ-loop
 loop2-again c =
     let i2 = c .before .before in
@@ -94,12 +79,6 @@ index-requires : tie.Need-index-requires Inv-loop2 μ-loop2 Inv-loop μ-loop
 index-requires c κs =
     let i2 = c .before .before in
     (is-sound (i2 .before .before .before .before .before), i2 .loop2-test .taken)
-
-add-k-2 : tie.Need-add-k-2 Inv-loop2 μ-loop2 Inv-loop μ-loop
-add-k-2 c = omega arith
-
-loop2-less-2 : tie.Need-loop2-less-2 Inv-loop2 μ-loop2 Inv-loop μ-loop
-loop2-less-2 c = omega arith
 
 loop2-again-2 : tie.Need-loop2-again-2 Inv-loop2 μ-loop2 Inv-loop μ-loop
 loop2-again-2 c =
@@ -117,15 +96,6 @@ pixel-requires c κs =
     let o = p .before .before .before in
     (rw (p .palette .ensures) (colours-length (now (start o .args .cgram)) (slice o .palette) (start o .pre .0) (is-sound o .palette-in)), x .index .ensures .1)
 
-mul-line : tie.Need-mul-line Inv-loop2 μ-loop2 Inv-loop μ-loop
-mul-line c = omega arith
-
-add-k-3 : tie.Need-add-k-3 Inv-loop2 μ-loop2 Inv-loop μ-loop
-add-k-3 c = omega arith
-
-loop2-less-3 : tie.Need-loop2-less-3 Inv-loop2 μ-loop2 Inv-loop μ-loop
-loop2-less-3 c = omega arith
-
 loop2-again-3 : tie.Need-loop2-again-3 Inv-loop2 μ-loop2 Inv-loop μ-loop
 loop2-again-3 c =
     let e = c .before in
@@ -141,13 +111,8 @@ loop2-again-3 c =
     let j = (s .«tile_x» + l .k) % 512 in
     let is = c .pixel .ensures ∙ (λ i. pixelOf (p .palette .ensures i) (s .palette) (s .z) (x .index .ensures .0 i)) in
     let opaque : sliceIndex v s (l .k) ≡ 0 → ⊥ = λ z. e .if2 .left (x .index .ensures .0 ∙ z) in
-    ((λ i. set (l .inv .0 i) j (is i)) ∙ drawn v g s (held o) (l .k) (is-sound o .nine) (i2 .loop2-test .taken) (x .before .if1 .left) opaque, omega (arith, i2 .loop2-test .taken))
-
-add-i : tie.Need-add-i Inv-loop2 μ-loop2 Inv-loop μ-loop
-add-i c = omega arith
-
-loop-less : tie.Need-loop-less Inv-loop2 μ-loop2 Inv-loop μ-loop
-loop-less c = omega arith
+    let h = i2 .loop2-test .taken in
+    ((λ i. set (l .inv .0 i) j (is i)) ∙ drawn v g s (held o) (l .k) (is-sound o .nine) h (x .before .if1 .left) opaque, omega (arith, h))
 
 loop-again : tie.Need-loop-again Inv-loop2 μ-loop2 Inv-loop μ-loop
 loop-again c =
@@ -157,7 +122,8 @@ loop-again c =
     let v = now (a .vram) in
     let g = now (a .cgram) in
     let n : l .k ≡ 8 = omega (arith, l .inv .1, c .loop2-test .left) in
-    (l .inv .0 ∙ ((λ i. tab 256 (after v g (slice o) (held o) (n i))) ∙ drawn-more v g (a .t1 .slices) (o .before .loop .i) (omega (arith, whole (start o)))), omega (arith, o .loop-test .taken))
+    let more = drawn-more v g (a .t1 .slices) (o .before .loop .i) (omega (arith, whole (start o))) in
+    (l .inv .0 ∙ ((λ i. tab 256 (after v g (slice o) (held o) (n i))) ∙ more), omega (arith, o .loop-test .taken))
 
 returns : tie.Need-returns Inv-loop2 μ-loop2 Inv-loop μ-loop
 returns c =
@@ -176,26 +142,26 @@ draw-spec =
     μ-loop
     (λ c κs. search needs)
     loop-holds
-    mul-s
+    (λ c. search needs)
     element-copy-out-s
     palette-requires
     loop2-holds
-    cast-x
-    add-x
-    add-k
-    loop2-less
+    (λ c. search needs)
+    (λ c. search needs)
+    (λ c. search needs)
+    (λ c. search needs)
     loop2-again
     index-requires
-    add-k-2
-    loop2-less-2
+    (λ c. search needs)
+    (λ c. search needs)
     loop2-again-2
     pixel-requires
-    mul-line
     (λ c. search needs)
-    add-k-3
-    loop2-less-3
+    (λ c. search needs)
+    (λ c. search needs)
+    (λ c. search needs)
     loop2-again-3
-    add-i
-    loop-less
+    (λ c. search needs)
+    (λ c. search needs)
     loop-again
     returns)

@@ -80,17 +80,8 @@ loop-holds c =
     let e = ap (fetchOrder (a .view .objsel)) (drop-of-length-le l {i = a .t1 .count} (omega (arith, listed (c .before)))) ∙ order-none (a .view .objsel) in
     (so-far-none (a .view) e (c .blank .ensures), omega arith)
 
-sub-k : tie.Need-sub-k Inv-loop2 μ-loop2 Inv-loop μ-loop
-sub-k c = omega arith
-
-mul-p : tie.Need-mul-p Inv-loop2 μ-loop2 Inv-loop μ-loop
-mul-p c = omega arith
-
 element-copy-out-p : tie.Need-element-copy-out-p Inv-loop2 μ-loop2 Inv-loop μ-loop
 element-copy-out-p c = omega (arith, whole (c .before .before .before))
-
-cast-tiles-wide : tie.Need-cast-tiles-wide Inv-loop2 μ-loop2 Inv-loop μ-loop
-cast-tiles-wide c = omega arith
 
 loop2-holds : tie.Need-loop2-holds Inv-loop2 μ-loop2 Inv-loop μ-loop
 loop2-holds c =
@@ -103,9 +94,6 @@ loop2-holds c =
           (l .inv .0),
       omega arith,
     )
-
-loop-less : tie.Need-loop-less Inv-loop2 μ-loop2 Inv-loop μ-loop
-loop-less c = omega arith
 
 loop-again : tie.Need-loop-again Inv-loop2 μ-loop2 Inv-loop μ-loop
 loop-again c =
@@ -120,18 +108,6 @@ loop-again c =
     ∙ ((λ i. later o ++ tilesTo (in-list o i) (sizeIn (a .view .objsel) (in-list o i) .width / 8))
     ∙ order-more (a .view .objsel) (list o) (o .before .loop .k - 1) (listed-at o)) in
     (so-far-at (a .view) e (l .inv .0), omega arith)
-
-cast-tile-counts : tie.Need-cast-tile-counts Inv-loop2 μ-loop2 Inv-loop μ-loop
-cast-tile-counts c = omega arith
-
-tile-counts-requires : tie.Need-tile-counts-requires Inv-loop2 μ-loop2 Inv-loop μ-loop
-tile-counts-requires c κs = omega arith
-
-add-t : tie.Need-add-t Inv-loop2 μ-loop2 Inv-loop μ-loop
-add-t c = omega arith
-
-loop2-less : tie.Need-loop2-less Inv-loop2 μ-loop2 Inv-loop μ-loop
-loop2-less c = omega arith
 
 loop2-again : tie.Need-loop2-again Inv-loop2 μ-loop2 Inv-loop μ-loop
 loop2-again c =
@@ -152,7 +128,8 @@ returns c =
     let o = z .before .before .before in
     let a = start o .args in
     let w : l .t < sizeIn (a .view .objsel) (getD (list o) (o .before .loop .k - 1) blankSprite) .width / 8 =
-    subst (λ (s : Sprite). l .t < sizeIn (a .view .objsel) s .width / 8) (in-list o) (subst (λ (s : SpriteSize). l .t < s .width / 8) (z .sprite-size .ensures .0) (i2 .loop2-test .taken)) in
+    subst (λ (s : Sprite). l .t < sizeIn (a .view .objsel) s .width / 8) (in-list o)
+    (subst (λ (s : SpriteSize). l .t < s .width / 8) (z .sprite-size .ensures .0) (i2 .loop2-test .taken)) in
     built (a .view)
     (full (a .view) (a .view .objsel) (list o) (o .before .loop .k - 1) (l .t) (listed-at o) w
     (so-far-at (a .view) (λ i. later o ++ tilesTo (in-list o i) (l .t)) (l .inv .0)) (c .if2 .taken))
@@ -164,18 +141,6 @@ slice-requires c κs =
     let z = n .before in
     let o = z .before .before .before in
     ((z .sprite-size .ensures .1, start o .pre .1 (o .before .loop .k - 1) (omega arith)), (n .line-in .ensures .1, i2 .loop2-test .taken))
-
-mul-slices : tie.Need-mul-slices Inv-loop2 μ-loop2 Inv-loop μ-loop
-mul-slices c = omega arith
-
-add-count : tie.Need-add-count Inv-loop2 μ-loop2 Inv-loop μ-loop
-add-count c = omega arith
-
-add-t-2 : tie.Need-add-t-2 Inv-loop2 μ-loop2 Inv-loop μ-loop
-add-t-2 c = omega arith
-
-loop2-less-2 : tie.Need-loop2-less-2 Inv-loop2 μ-loop2 Inv-loop μ-loop
-loop2-less-2 c = omega arith
 
 loop2-again-2 : tie.Need-loop2-again-2 Inv-loop2 μ-loop2 Inv-loop μ-loop
 loop2-again-2 c =
@@ -214,27 +179,27 @@ fetch-spec =
     μ-loop
     (λ c κs. search needs)
     loop-holds
-    sub-k
-    mul-p
+    (λ c. search needs)
+    (λ c. search needs)
     element-copy-out-p
     (λ c κs. search needs)
     (λ c κs. search needs)
     (λ c κs. search needs)
-    cast-tiles-wide
+    (λ c. search needs)
     loop2-holds
-    loop-less
+    (λ c. search needs)
     loop-again
-    cast-tile-counts
-    tile-counts-requires
-    add-t
-    loop2-less
+    (λ c. search needs)
+    (λ c κs. search needs)
+    (λ c. search needs)
+    (λ c. search needs)
     loop2-again
     returns
     slice-requires
-    mul-slices
     (λ c. search needs)
-    add-count
-    add-t-2
-    loop2-less-2
+    (λ c. search needs)
+    (λ c. search needs)
+    (λ c. search needs)
+    (λ c. search needs)
     loop2-again-2
     returns-2)

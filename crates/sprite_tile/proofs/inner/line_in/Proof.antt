@@ -25,7 +25,8 @@ step-requires c κs =
     let s = f .before .before .before .before in
     let a = s .args in
     let w : 0 < a .size .width = omega (arith, s .pre .wide) in
-    (f .flip .ensures .1, λ o e. subst (λ (n : ℕ). 0 < n) (sym (flipped f)) (can-step (a .view .«obj_interlace») (a .view .field) (a .s .«flip_y») (a .size .width) _ w (s .pre .whole) o e))
+    let above = can-step (a .view .«obj_interlace») (a .view .field) (a .s .«flip_y») (a .size .width) (lineOf (a .view .row) (a .s .y)) w (s .pre .whole) in
+    (f .flip .ensures .1, λ o e. subst (λ (n : ℕ). 0 < n) (sym (flipped f)) (above o e))
 
 returns : tie.Need-returns
 unfolding lineIn

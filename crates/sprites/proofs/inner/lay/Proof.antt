@@ -25,7 +25,9 @@ returns c =
     let a = s .args in
     let pixel = spritePixel (now (a .vram)) (now (a .cgram)) (now (a .oam)) (a .r) (a .y) in
     let unlit = neither _ _ (c .if1 .taken) in
-    sym (unlit-lays-nothing (shownOf (a .r)) pixel (a .lines) (sym (λ i. w .shown .ensures i .«to_main») ∙ unlit .0) (sym (λ i. w .shown .ensures i .«to_sub») ∙ unlit .1) (long-main s) (long-sub s))
+    let main = sym (λ i. w .shown .ensures i .«to_main») ∙ unlit .0 in
+    let sub = sym (λ i. w .shown .ensures i .«to_sub») ∙ unlit .1 in
+    sym (unlit-lays-nothing (shownOf (a .r)) pixel (a .lines) main sub (long-main s) (long-sub s))
 
 returns-2 : tie.Need-returns-2
 returns-2 c =

@@ -22,8 +22,9 @@ is-chosen : (c : tie.After-choose) →
     c .choose .result ≡ chosenOf (now (a .oam)) (a .y) (a .r .objsel) (a .r .oamadd) (viewOf (a .r) (a .y) .«obj_interlace»)
 is-chosen c =
     let a = c .before .before .before .before .before .args in
+    let view = c .before .view .ensures in
     c .choose .ensures
-    ∙ (λ i. chosenOf (now (a .oam)) (c .before .view .ensures i .row) (c .before .view .ensures i .objsel) (a .r .oamadd) (c .before .view .ensures i .«obj_interlace»))
+    ∙ (λ i. chosenOf (now (a .oam)) (view i .row) (view i .objsel) (a .r .oamadd) (view i .«obj_interlace»))
 
 fetch-requires : tie.Need-fetch-requires
 fetch-requires c κs =
