@@ -1,0 +1,36 @@
+use borrow.Author.Needs.{needs}
+use Prim.Native.Nat.{_-_}
+use lib.ListN.{length}
+use mathlib.Core.Path.{_≡_}
+use Rattle.replay_sprites.proofs.scene.fill.Statement.{statement}
+use Rattle.replay_sprites.proofs.scene.fill.Tie as tie
+
+abbrev Inv-loop : tie.InvT-loop
+Inv-loop oam₀ kind first drawn seed x₀ i₀ oam x i = length oam ≡ length oam₀
+
+abbrev μ-loop : tie.MeasureT-loop
+μ-loop oam₀ kind first drawn seed x₀ i₀ oam x i = 128 - i
+
+pub fill-spec : {M : Type 1} → statement M
+fill-spec =
+    tie.close
+    (tie.spec
+    Inv-loop
+    μ-loop
+    (λ c. search needs)
+    (λ c κs. search needs)
+    (λ c κs. search needs)
+    (λ c κs. search needs)
+    (λ c κs. search needs)
+    (λ c κs. search needs)
+    (λ c κs. search needs)
+    (λ c κs. search needs)
+    (λ c κs. search needs)
+    (λ c κs. search needs)
+    (λ c κs. search needs)
+    (λ c κs. search needs)
+    (λ c. search needs)
+    (λ c. search needs)
+    (λ c. search needs)
+    (λ c. search needs)
+    (λ c. search needs))

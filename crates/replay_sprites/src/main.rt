@@ -1,0 +1,17 @@
+// Replays the oracle's list `sprites`: rows of scenes in which sprites alone are lit.
+mod memory;
+mod pixels;
+mod rows;
+mod scene;
+
+fn main() {
+    let mut vram = [0u16; 32768];
+    let mut cgram = [0u16; 256];
+    let mut x: u32 = 50;
+    io::write_all(1, b"scenes\n");
+    for filling in 0..4u16 {
+        x = memory::fill_vram(&mut vram, x);
+        x = memory::fill_cgram(&mut cgram, x);
+        x = rows::forty(&vram, &cgram, filling, x);
+    }
+}
