@@ -46,7 +46,6 @@ fn several(sprites: [u8; 544], first: usize, after: usize, wide: usize, x9: u16)
 fn beside(vram: &[u16], cgram: &[u16], objsel: u8, n: usize, x9: u16, oamadd: u16, from: u8)
     requires { ⌜ n < 128 ⌝ }
 {
-    let unused: u8 = 0;
     let alone = with([128; 544], 0, true, 0, 0, 0x11, 0x00);
     let oam = several(alone, 1, n + 1, 128, x9);
     let size = oam::sprite_size(objsel, true);
