@@ -5,6 +5,7 @@ use mathlib.Core.Path.{_≡_, refl, sym, ap, _∙_}
 use mathlib.Core.Bool.{Bool, true, false, cond, _||_}
 use mathlib.Core.List.{List, [], _∷_, map, map-append}
 use native.Mathlib.Omega.{arith}
+use native.Mathlib.Nat.{mod-eq-of-lt, add-mod-right}
 use lib.ListN.{length, take, length-map}
 use lib.Seq.{take-nil}
 use lib.Dec.{ltb, eqb, lit<}
@@ -30,7 +31,7 @@ use Rattle.sprite_fetch.specs.Turns.{leaves, own-places, in-turn}
 use Rattle.sprite_fetch.specs.Walk.{sliceIn, blankSlice, fetchedList, offsetIn, drawnTo, drawnAll, drawnLine}
 use Rattle.sprite_fetch.proofs.Draws.{drawn-append}
 
--- Where x less y plus n stands, counted modulo 512 from y: in three cases, by which of the two sums pass 512.
+-- A column less the left edge of a sprite, and less that of a tile n further on: three cases, by which of the sums pass 512.
 args : (a n x : ℕ) → a ≤ x → n ≤ 512 → x + 512 - (a + n) ≡ x - a + 512 - n
 args a n x h k = omega arith
 
@@ -39,12 +40,6 @@ args-past a n x h k p = omega arith
 
 args-before : (a n x : ℕ) → a + n ≤ x + 512 → x + 512 - a + 512 - n ≡ x + 512 - (a + n) + 512
 args-before a n x h = omega arith
-
-round : (m : ℕ) → (m + 512) % 512 ≡ m % 512
-round m = omega arith
-
-small : (m : ℕ) → m < 512 → m % 512 ≡ m
-small m h = omega arith
 
 past : (m : ℕ) → 512 ≤ m → m < 1024 → m % 512 ≡ m - 512
 past m h k = omega arith
@@ -61,17 +56,19 @@ module _ (a n x : ℕ) (nine : a < 512) (low : n ≤ 56) (h : x < 256) where
   unfolding from-tile from-sprite
   right b =
       let e : x + 512 - a ≡ x - a + 512 = omega arith in
-      let d = ap (λ (m : ℕ). m % 512) e ∙ (round (x - a) ∙ small (x - a) (omega arith)) in
-      rw (d, small (a + n) (omega arith), args a n x b (omega arith))
+      let d = ap (λ (m : ℕ). m % 512) e ∙ (add-mod-right (x - a) 512 ∙ mod-eq-of-lt {n = x - a} {m = 512} (omega arith)) in
+      rw (d, mod-eq-of-lt {n = a + n} {m = 512} (omega arith), args a n x b (omega arith))
 
   left : x < a → (t : Bool) → ltb (a + n) 512 ≡ t → from-tile ≡ from-sprite
   unfolding from-tile from-sprite
   left b true l =
       let k : a + n < 512 = ltb-true (a + n) 512 l in
-      rw (small (x + 512 - a) (omega arith), small (a + n) k, args-before a n x (omega arith), round (x + 512 - (a + n)))
+      let near = mod-eq-of-lt {n = x + 512 - a} {m = 512} (omega arith) in
+      rw (near, mod-eq-of-lt {n = a + n} {m = 512} k, args-before a n x (omega arith), add-mod-right (x + 512 - (a + n)) 512)
   left b false l =
       let k : 512 ≤ a + n = ltb-false (a + n) 512 l in
-      rw (small (x + 512 - a) (omega arith), past (a + n) k (omega arith), args-past a n x (omega arith) (omega arith) k)
+      let near = mod-eq-of-lt {n = x + 512 - a} {m = 512} (omega arith) in
+      rw (near, past (a + n) k (omega arith), args-past a n x (omega arith) (omega arith) k)
 
   either : (t : Bool) → ltb x a ≡ t → from-tile ≡ from-sprite
   either true l = left (ltb-true x a l) (ltb (a + n) 512) refl

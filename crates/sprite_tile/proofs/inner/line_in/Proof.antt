@@ -8,8 +8,8 @@ use Rattle.sprite_tile.proofs.Laws.{can-step}
 use borrow.Author.Needs.{needs}
 use Rattle.sprite_tile.proofs.inner.line_in.Statement.{statement}
 use Rattle.sprite_tile.proofs.inner.line_in.Tie as tie
-    -- the line after a flip
 
+-- the line after a flip
 flipped : (c : tie.After-flip) →
     let a = c .before .before .before .before .args in
     c .flip .result ≡ flippedIn (a .size .width) (a .s .«flip_y») (doubled (a .view .«obj_interlace») (lineOf (a .view .row) (a .s .y)))

@@ -10,8 +10,8 @@ use Rattle.sprites.proofs.Listed.{neither}
 use borrow.Author.Needs.{needs}
 use Rattle.sprites.proofs.inner.lay.Statement.{statement}
 use Rattle.sprites.proofs.inner.lay.Tie as tie
-    -- the lines have their 256 pixels
 
+-- the lines have their 256 pixels
 long-main : (c : tie.Start) → length (c .args .lines .main) ≡ 256
 long-main c = search (needs, long-field)
 

@@ -11,8 +11,8 @@ use Rattle.sprites.proofs.Listed.{chosen-few, chosen-fair, chosen-liste
 use borrow.Author.Needs.{needs}
 use Rattle.sprites.proofs.inner.line.Statement.{statement}
 use Rattle.sprites.proofs.inner.line.Tie as tie
-    -- objsel is a byte
 
+-- objsel is a byte
 byte : (c : tie.Start) → c .args .r .objsel < 256
 byte c = omega arith
 
