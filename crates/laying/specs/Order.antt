@@ -1,5 +1,6 @@
 -- The order in which layers are laid never shows: whatever the order, and however often a layer is laid, each pixel of both
--- lines is the candidate of greatest priority there, or the backdrop where there is no candidate. Said of any set of layers.
+-- lines is the candidate of greatest priority there, or the backdrop where there is no candidate. Said of any set of layers, of
+-- which each that has a candidate is laid at least once.
 use Prim.Native.Nat.{ℕ, _≤_, _<_}
 use mathlib.Core.Path.{_≡_, refl, ap, sym, subst, _∙_}
 use mathlib.Core.Bool.{Bool, true, false, cond, _&&_, false≢true}
@@ -30,6 +31,10 @@ module _ {S : Type 0} where
   pub data Seen (c : S → Candidate) (b p : LinePixel) : Type 0 where
     bare : ((k : S) → Has c k → ⊥) → p ≡ b → Seen c b p
     nearest : (k : S) → Has c k → ((j : S) → Has c j → nearness c j ≤ nearness c k) → p ≡ c k .pixel → Seen c b p
+
+  -- each layer that has a candidate is among ks
+  abbrev pub Covers : (ℕ → S → Candidate) → List S → Type 0
+  Covers on ks = (x : ℕ) → x < 256 → (k : S) → Has (on x) k → List·Memᴰ k ks
 
   -- no two candidates tie
   abbrev pub NoTies : (S → Candidate) → Type 0
@@ -84,13 +89,13 @@ module _ {S : Type 0} where
         go true e false f r = under k (λ t. leb-false (h .z .0) (nearness c k) f) r
         go true e true f r = above k e (leb-true (h .z .0) (nearness c k) f) r
 
-    -- over a pixel of priority 0, where every layer is laid
-    laid-seen : (ks : List S) (h : LinePixel) → h .z .0 ≡ 0 → ((k : S) → List·Memᴰ k ks) → Seen c h (laid c ks h)
+    -- over a pixel of priority 0, where every layer that has a candidate is laid
+    laid-seen : (ks : List S) (h : LinePixel) → h .z .0 ≡ 0 → ((k : S) → Has c k → List·Memᴰ k ks) → Seen c h (laid c ks h)
     laid-seen ks h e m = go (best ks h)
       where
         go : {p : LinePixel} → Best ks h p → Seen c h p
-        go (kept q g) = bare (λ k o. omega (arith, g k (m k) o)) q
-        go (over k o l g q) = nearest k o (λ j o′. g j (m j) o′) q
+        go (kept q g) = bare (λ k o. omega (arith, g k (m k o) o)) q
+        go (over k o l g q) = nearest k o (λ j o′. g j (m j o′) o′) q
 
   -- one screen's line after the layers ks, in that order
   unfoldable lays : (S → ℕ → Candidate) → List S → List LinePixel → List LinePixel
@@ -116,19 +121,18 @@ module _ {S : Type 0} where
         lays-at ks (layLine (c k) l) x h
         ∙ ap (laid (at x) ks) (getD-tab (λ y. deposited (getD l y noPixel) (c k y)) 256 x noPixel h)
 
-    lays-seen : (ks : List S) → ((k : S) → List·Memᴰ k ks) → (colour x : ℕ) → x < 256 →
+    lays-seen : (ks : List S) (colour x : ℕ) → x < 256 → ((k : S) → Has (at x) k → List·Memᴰ k ks) →
         Seen (at x) (backdropOf colour) (getD (lays c ks (backdropLine colour)) x noPixel)
-    lays-seen ks m colour x h =
+    lays-seen ks colour x h m =
         subst (Seen (at x) (backdropOf colour))
         (sym (lays-at ks (backdropLine colour) x h ∙ ap (laid (at x) ks) (getD-backdrop colour x h)))
         (laid-seen (at x) ks (backdropOf colour) refl m)
 
-    one-line : (ks js : List S) → ((k : S) → List·Memᴰ k ks) → ((k : S) → List·Memᴰ k js) →
-        ((x : ℕ) → x < 256 → NoTies (at x)) → (colour : ℕ) → lays c ks (backdropLine colour) ≡ lays c js (backdropLine colour)
+    one-line : (ks js : List S) → Covers at ks → Covers at js → ((x : ℕ) → x < 256 → NoTies (at x)) → (colour : ℕ) → lays c ks (backdropLine colour) ≡ lays c js (backdropLine colour)
     one-line ks js m n t colour =
         let long = length-lays ks (backdropLine colour) (length-backdrop colour) in
         ext-getD noPixel _ _ (long ∙ sym (length-lays js (backdropLine colour) (length-backdrop colour)))
-        (λ x h. let b : x < 256 = omega (arith, long) in one-seen (t x b) (lays-seen ks m colour x b) (lays-seen js n colour x b))
+        (λ x h. let b : x < 256 = omega (arith, long) in one-seen (t x b) (lays-seen ks colour x b (m x b)) (lays-seen js colour x b (n x b)))
 
   module _ (shown : S → Shown) (row : S → ℕ → Candidate) where
     -- both lines after the layers ks, in that order, one laying after another
@@ -156,34 +160,34 @@ module _ {S : Type 0} where
         from-start : (ks : List S) → lays (λ k x. on x k) ks (backdropLine colour) ≡ of (layAll ks start)
         from-start ks = sym (screen-line ks start ∙ ap (lays (λ j x. on x j) ks) starts)
 
-        screen-seen : (ks : List S) → ((k : S) → List·Memᴰ k ks) → (x : ℕ) → x < 256 →
+        screen-seen : (ks : List S) → Covers on ks → (x : ℕ) → x < 256 →
             Seen (on x) (backdropOf colour) (getD (of (layAll ks start)) x noPixel)
         screen-seen ks m x h =
             subst (λ (l : List LinePixel). Seen (on x) (backdropOf colour) (getD l x noPixel)) (from-start ks)
-            (lays-seen (λ k y. on y k) ks m colour x h)
+            (lays-seen (λ k y. on y k) ks colour x h (m x h))
 
-        one-screen : (ks js : List S) → ((k : S) → List·Memᴰ k ks) → ((k : S) → List·Memᴰ k js) →
+        one-screen : (ks js : List S) → Covers on ks → Covers on js →
             ((x : ℕ) → x < 256 → NoTies (on x)) → of (layAll ks start) ≡ of (layAll js start)
         one-screen ks js m n t = sym (from-start ks) ∙ (one-line (λ k y. on y k) ks js m n t colour ∙ from-start js)
 
     module _ (main sub : ℕ) where
-      -- From the backdrops, every layer laid at least once, in whatever order: at each pixel of the main line the candidate of
+      -- From the backdrops, every layer that has a candidate laid at least once, in whatever order: at each pixel of the main line the candidate of
       -- greatest priority is seen, or the backdrop where there is none.
-      pub main-seen : (ks : List S) → ((k : S) → List·Memᴰ k ks) → (x : ℕ) → x < 256 →
+      pub main-seen : (ks : List S) → Covers mainAt ks → (x : ℕ) → x < 256 →
           Seen (mainAt x) (backdropOf main) (getD (layAll ks (backdropLines main sub) .main) x noPixel)
       main-seen = screen-seen (λ l. l .main) mainAt main (λ k l. refl) (backdropLines main sub) refl
 
       -- and so of the sub line
-      pub sub-seen : (ks : List S) → ((k : S) → List·Memᴰ k ks) → (x : ℕ) → x < 256 →
+      pub sub-seen : (ks : List S) → Covers subAt ks → (x : ℕ) → x < 256 →
           Seen (subAt x) (backdropOf sub) (getD (layAll ks (backdropLines main sub) .sub) x noPixel)
       sub-seen = screen-seen (λ l. l .sub) subAt sub (λ k l. refl) (backdropLines main sub) refl
 
       -- So where no two candidates tie, any two orders leave the same lines.
-      pub order-never-shows : (ks js : List S) → ((k : S) → List·Memᴰ k ks) → ((k : S) → List·Memᴰ k js) →
+      pub order-never-shows : (ks js : List S) → Covers mainAt ks → Covers subAt ks → Covers mainAt js → Covers subAt js →
           ((x : ℕ) → x < 256 → NoTies (mainAt x)) → ((x : ℕ) → x < 256 → NoTies (subAt x)) →
           layAll ks (backdropLines main sub) ≡ layAll js (backdropLines main sub)
-      order-never-shows ks js m n t u =
+      order-never-shows ks js m m′ n n′ t u =
           λ i. record {
             main = one-screen (λ l. l .main) mainAt main (λ k l. refl) (backdropLines main sub) refl ks js m n t i;
-            sub = one-screen (λ l. l .sub) subAt sub (λ k l. refl) (backdropLines main sub) refl ks js m n u i;
+            sub = one-screen (λ l. l .sub) subAt sub (λ k l. refl) (backdropLines main sub) refl ks js m′ n′ u i;
           }

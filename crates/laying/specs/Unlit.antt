@@ -1,7 +1,7 @@
 -- A layer that is lit on neither screen lays nothing, and what a window hides is no candidate.
 use Prim.Native.Nat.{ℕ}
 use mathlib.Core.Path.{_≡_, refl, sym, ap, _∙_}
-use mathlib.Core.Bool.{Bool, true, false, cond, _&&_, not}
+use mathlib.Core.Bool.{Bool, true, false, cond, _&&_, not, and-false}
 use mathlib.Core.List.{List}
 use lib.ListN.{length, getD}
 use Rattle.lists.specs.Tab.{by-getD}
@@ -12,10 +12,6 @@ use Rattle.line.specs.declared.Lines.{Lines}
 use Rattle.line.specs.Pixels.{noPixel, none, deposited}
 use Rattle.laying.specs.declared.Shown.{Shown}
 use Rattle.laying.specs.Laying.{onScreen, candidatesOf, layLine, layLines}
-
-never : (a : Bool) → a && false ≡ false
-never true = refl
-never false = refl
 
 -- what is not shown leaves the held pixel
 kept : (h : LinePixel) (o : Bool) (p : LinePixel) → h ≡ deposited h (onScreen false (record { opaque = o; pixel = p }))
@@ -40,7 +36,7 @@ unlit-lays-nothing s row lines main sub long-main long-sub =
 
 -- Where the mask holds x and bars the screen, the layer has no candidate there: nothing of the layer shows instead.
 hidden : (lit : Bool) (c : Candidate) {win m : Bool} → win ≡ true → m ≡ true → onScreen (lit && not (win && m)) c ≡ none
-hidden lit c e f = (λ i. onScreen (lit && not (e i && f i)) c) ∙ (λ i. cond (c .opaque && never lit i) c none) ∙ (λ i. cond (never (c .opaque) i) c none)
+hidden lit c e f = (λ i. onScreen (lit && not (e i && f i)) c) ∙ (λ i. cond (c .opaque && and-false lit i) c none) ∙ (λ i. cond (and-false (c .opaque) i) c none)
 
 pub hidden-on-main : (s : Shown) (x : ℕ) (c : Candidate) → s .«win_main» ≡ true → masked (s .window) x ≡ true →
     candidatesOf s x c .main ≡ none

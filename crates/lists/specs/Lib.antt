@@ -4,3 +4,4 @@ pub mod Keep
 pub mod Runs
 pub mod Places
 pub mod Each
+pub mod Apart

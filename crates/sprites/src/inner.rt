@@ -4,20 +4,52 @@ use laying::Candidates;
 use laying::Shown;
 use line::Candidate;
 use line::Lines;
+use oam::OAM_SIZE;
+use refusal::Refusal;
+use refusal::Verdict;
 use registers::PPURegisters;
+use registers::constants::COLOUR_WORDS;
+use registers::constants::SCREEN_HEIGHT;
 use registers::inner::bit;
 use sprite_fetch::inner::draw;
 use sprite_fetch::inner::fetch;
 use sprite_tile::View;
+use tiles::inner::VRAM_WORDS;
 ghost use mathlib.Core.Path.{_≡_};
+ghost use mathlib.Core.Bool.{true};
 ghost use Prim.Native.Nat.{_<_};
 ghost use lib.ListN.{length};
+ghost use Rattle.refusal.specs.Verdicts.{verdictMeans, Passed};
 ghost use Rattle.lists.specs.Tab.{tab};
 ghost use Rattle.laying.specs.Laying.{candidatesOf, layLines};
-ghost use Rattle.sprites.specs.Sprites.{Sound, viewOf, spritePixel, shownOf, emptyLine};
+ghost use Rattle.sprites.specs.Sprites.{Sound, rowTests, viewOf, spritePixel, shownOf, emptyLine};
 
 // The sprites' bit of tm, ts, tmw and tsw.
 const OBJ: usize = 4;
+
+// The tests of a row: its number and the lengths of the memories; then, where `column` says that the
+// column is out of its range, the last.
+pub fn tested(y: usize, words: usize, colours: usize, bytes: usize, column: bool) -> Verdict
+    ensures { λ r. ⌜ (verdictMeans r ≡ rowTests y words colours bytes column) × (Passed r → Sound colours bytes y × (column ≡ true)) ⌝ }
+{
+    if y >= SCREEN_HEIGHT {
+        return Verdict::Refused(Refusal::Row);
+    }
+    if words != VRAM_WORDS {
+        return Verdict::Refused(Refusal::Vram);
+    }
+    if colours != COLOUR_WORDS {
+        return Verdict::Refused(Refusal::Colour);
+    }
+    if bytes != OAM_SIZE {
+        return Verdict::Refused(Refusal::Oam);
+    }
+    if column {
+        Verdict::Fine
+    } else {
+        Verdict::Refused(Refusal::Argument)
+    }
+}
 
 // A line with no pixel.
 pub fn empty() -> [Candidate; 256]

@@ -1,6 +1,6 @@
 use borrow.Author.Tests.{lt-ltb, le-ltb, eq-eqb, ne-eqb}
-use Rattle.sprites.proofs.tested.Statement.{statement}
-use Rattle.sprites.proofs.tested.Tie as tie
+use Rattle.sprites.proofs.inner.tested.Statement.{statement}
+use Rattle.sprites.proofs.inner.tested.Tie as tie
 
 returns : tie.Need-returns
 returns c = (simp (le-ltb _ _ (c .if1 .taken)), λ e. absurd e)

@@ -1,0 +1,25 @@
+// The composite of both lines: colour math and brightness, into the bytes of a row. Follows
+// renderer.rs, with its names.
+pub mod inner;
+
+use line::Lines;
+use refusal::Refusal;
+use refusal::Verdict;
+use registers::PPURegisters;
+ghost use mathlib.Core.Path.{_≡_};
+ghost use Rattle.refusal.specs.Verdicts.{verdictMeans};
+ghost use Rattle.composite.specs.Composite.{compositeOutcome};
+
+// The bytes of a row.
+pub const ROW_BYTES: usize = 768;
+
+// Writes the row that both lines make into a lent row.
+pub fn composite_line(row: &mut [u8], lines: Lines, r: PPURegisters) -> Verdict
+    ensures { λ v. ⌜ record { said = verdictMeans v; left = now (row .exit) } ≡ compositeOutcome (now (row .entry)) lines r ⌝ }
+{
+    if row.len() != ROW_BYTES {
+        return Verdict::Refused(Refusal::Lent);
+    }
+    inner::composite(row, lines, r);
+    Verdict::Fine
+}

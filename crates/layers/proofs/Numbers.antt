@@ -1,0 +1,39 @@
+-- A layer by its number: a background, or the sprites.
+use Prim.Native.Nat.{ℕ, _<_, _≤_}
+use mathlib.Core.Path.{_≡_, sym, subst}
+use mathlib.Core.Bool.{Bool, true, false, cond}
+use native.Mathlib.Omega.{arith}
+use lib.Dec.{eqb}
+use borrow.Author.Tests.{lt-ltb}
+use Rattle.registers.specs.declared.PPURegisters.{PPURegisters}
+use Rattle.line.specs.declared.Layer.the-variants.{Bg1, Bg2, Bg3, Bg4}
+use Rattle.line.specs.declared.Candidate.{Candidate}
+use Rattle.line.specs.Pixels.{none, backgroundOf}
+use Rattle.bg_map.specs.declared.BgParams.{BgParams}
+use Rattle.bg_row.specs.Row as row
+use Rattle.background.specs.Background as background
+use Rattle.sprites.specs.Sprites as sprites
+use Rattle.modes.specs.Modes.{paramsOf}
+use Rattle.layers.specs.Layers.{Scene, layerShown, layerPixel}
+
+-- a background's parameters are of a background
+low-layer : (z o t : Bool) → backgroundOf (cond z Bg1 (cond o Bg2 (cond t Bg3 Bg4))) < 4
+low-layer true o t = omega arith
+low-layer false true t = omega arith
+low-layer false false true = omega arith
+low-layer false false false = omega arith
+
+pub own-number : (r : PPURegisters) (b : ℕ) → backgroundOf (paramsOf r b .layer) < 4
+unfolding paramsOf
+own-number r b = low-layer (eqb b 0) (eqb b 1) (eqb b 2)
+
+-- so they are sound where the row is
+pub sound : {colours y : ℕ} {p : BgParams} (r : PPURegisters) (b : ℕ) → colours ≡ 256 → y < 224 → p ≡ paramsOf r b → row.Sound colours (p .layer) y
+sound r b g y e = record {
+  whole = g;
+  background = subst (λ (q : BgParams). backgroundOf (q .layer) < 4) (sym e) (own-number r b);
+  row = y;
+}
+
+pub is-four : (k : ℕ) → 4 ≤ k → k < 5 → k ≡ 4
+is-four k l h = omega arith

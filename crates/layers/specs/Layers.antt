@@ -1,0 +1,77 @@
+-- A scene, and its layers by their numbers: BG1 to BG4 are 0 to 3, the sprites 4.
+use Prim.Native.Nat.{ℕ}
+use mathlib.Core.Bool.{Bool, true, cond, _&&_}
+use mathlib.Core.List.{List}
+use lib.ListN.{length, getD}
+use lib.Dec.{ltb, leb, eqb}
+use Rattle.refusal.specs.Answer.{Answer, value, provided, _andThen_, Outcome, outcome}
+use Rattle.registers.specs.declared.PPURegisters.{PPURegisters}
+use Rattle.line.specs.declared.Candidate.{Candidate}
+use Rattle.line.specs.declared.Lines.{Lines}
+use Rattle.line.specs.Pixels.{none, backdropLines}
+use Rattle.laying.specs.declared.Shown.{Shown}
+use Rattle.laying.specs.declared.Candidates.{Candidates}
+use Rattle.laying.specs.Laying.{candidatesOf, layLines}
+use Rattle.modes.specs.Modes.{paramsOf}
+use Rattle.bg_row.specs.Row.{bgPixel}
+use Rattle.background.specs.Background as background
+use Rattle.sprites.specs.Sprites as sprites
+
+-- what a row is drawn from: the registers and the three memories
+pub record Scene : Type 0 where
+  pub regs : PPURegisters
+  pub vram : List ℕ
+  pub cgram : List ℕ
+  pub oam : List ℕ
+
+abbrev pub scene : PPURegisters → List ℕ → List ℕ → List ℕ → Scene
+scene r v g o = record { regs = r; vram = v; cgram = g; oam = o }
+
+module _ (s : Scene) where
+  -- where layer k is shown
+  unfoldable pub layerShown : ℕ → Shown
+  layerShown k = cond (ltb k 4) (background.shownOf (s .regs) (paramsOf (s .regs) k)) (sprites.shownOf (s .regs))
+
+  -- its pixel at column x of row y, and whether it is opaque; there is no layer above 4
+  unfoldable pub layerPixel : ℕ → ℕ → ℕ → Candidate
+  layerPixel y k x =
+      cond (ltb k 4) (bgPixel (s .vram) (s .cgram) (s .regs) (paramsOf (s .regs) k) y x)
+      (cond (eqb k 4) (sprites.spritePixel (s .vram) (s .cgram) (s .oam) (s .regs) y x) none)
+
+  -- its candidates there
+  abbrev pub layerCandidates : ℕ → ℕ → ℕ → Candidates
+  layerCandidates y k x = candidatesOf (layerShown k) x (layerPixel y k x)
+
+  -- both lines after a laying step: it lays its own layer only
+  abbrev pub layered : ℕ → ℕ → Lines → Lines
+  layered y k lines = layLines (layerShown k) (layerPixel y k) lines
+
+  -- main starts as colour word 0, sub as coldata
+  abbrev pub startLines : Lines
+  startLines = backdropLines (getD (s .cgram) 0 0) (s .regs .coldata)
+
+-- a counter above 16 is refused 6, another argument out of range 7
+abbrev pub countTests : ℕ → Bool → Answer Unit
+countTests counter inRange = provided (leb counter 16) 6 (provided inRange 7 (value tt))
+
+-- before these a row above 223 is refused 1, VRAM of another length 2, colour memory 3, sprite memory 4
+abbrev pub layerTests : ℕ → ℕ → ℕ → ℕ → ℕ → Bool → Answer Unit
+layerTests y words colours bytes counter inRange =
+    sprites.rowTests y words colours bytes true andThen countTests counter inRange
+
+abbrev pub testsOf : Scene → ℕ → Bool → Answer Unit
+testsOf s y inRange =
+    layerTests y (length (s .vram)) (length (s .cgram)) (length (s .oam)) (s .regs .«mosaic_vcounter») inRange
+
+-- the lines before any layer is laid
+abbrev pub backdropOutcome : List ℕ → PPURegisters → Outcome Unit Lines
+backdropOutcome g r =
+    outcome (provided (eqb (length g) 256) 3 (value tt)) tt (backdropLines (getD g 0 0) (r .coldata)) (backdropLines 0 0)
+
+-- the candidates of layer k at column x of row y
+abbrev pub candidatesAnswer : Scene → ℕ → ℕ → ℕ → Answer Candidates
+candidatesAnswer s x y k = testsOf s y (ltb x 256 && ltb k 5) andThen value (layerCandidates s y k x)
+
+-- both lines after layer k of row y is laid over them
+abbrev pub layerOutcome : Scene → ℕ → ℕ → Lines → Outcome Unit Lines
+layerOutcome s y k lines = outcome (testsOf s y (ltb k 5)) tt (layered s y k lines) lines

@@ -1,0 +1,162 @@
+-- Drawing rows into a picture (demand 3): different rows, each with its own scene, leave the same picture in any order, and a
+-- row drawn again shows its last drawing.
+use Prim.Native.Nat.{ℕ, _<_}
+use mathlib.Core.Path.{_≡_, refl, sym, ap, _∙_}
+use mathlib.Core.Bool.{Bool, true, false, cond}
+use mathlib.Core.List.{List, [], _∷_, _++_, List·Memᴰ, List·Memᴰ·head, List·Memᴰ·tail, List·Memᴰ·cases-cons, List·Memᴰ·not-nil}
+use mathlib.Core.Logic.{⊎-elim}
+use native.Mathlib.Omega.{arith}
+use lib.Dec.{eqb, ltb}
+use lib.ListN.{length}
+use borrow.Author.Tests.{eqb-true, eqb-false, eq-eqb, ltb-true}
+use Rattle.refusal.specs.Answer.{Answer, value, provided, _andThen_, Outcome, outcome}
+use Rattle.refusal.specs.declared.Verdict.{Verdict}
+use Rattle.refusal.specs.Verdicts.{verdictMeans}
+use Rattle.lists.specs.Each.{Each}
+use Rattle.layers.specs.Layers.{Scene}
+use Rattle.renderer.specs.Renderer.{rowOf, length-row, withRow, testsOf, pictureOutcome}
+use Rattle.pictures.specs.Pictures.{rowPart}
+use Rattle.pictures.specs.Parts.{Whole, one-picture, whole-with, own-row, other-row}
+
+-- a drawing: a row, and the scene that it is drawn from
+pub record Drawing : Type 0 where
+  pub scene : Scene
+  pub row : ℕ
+
+abbrev pub bytesOf : Drawing → List ℕ
+bytesOf d = rowOf (d .scene) (d .row)
+
+-- a picture after the drawings ds, in that order
+unfoldable pub drawAll : List Drawing → List ℕ → List ℕ
+drawAll [] p = p
+drawAll (d ∷ ds) p = drawAll ds (withRow p (d .row) (bytesOf d))
+
+-- what row y shows after them, if it showed `held` before: the last drawing of that row
+unfoldable pub lastOf : List Drawing → ℕ → List ℕ → List ℕ
+lastOf [] y held = held
+lastOf (d ∷ ds) y held = lastOf ds y (cond (eqb (d .row) y) (bytesOf d) held)
+
+abbrev pub Rows : List Drawing → Type 0
+Rows ds = Each (λ d. d .row < 224) ds
+
+module _ (d : Drawing) (p : List ℕ) (w : Whole p) (h : d .row < 224) where
+  whole-after : Whole (withRow p (d .row) (bytesOf d))
+  whole-after = whole-with p (bytesOf d) (d .row) w (length-row (d .scene) (d .row)) h
+
+  row-after : (y : ℕ) → y < 224 → rowPart (withRow p (d .row) (bytesOf d)) y ≡ cond (eqb (d .row) y) (bytesOf d) (rowPart p y)
+  row-after y g = by-test (eqb (d .row) y) refl
+    where
+      by-test : (t : Bool) → eqb (d .row) y ≡ t → rowPart (withRow p (d .row) (bytesOf d)) y ≡ cond t (bytesOf d) (rowPart p y)
+      by-test true e =
+          ap (rowPart (withRow p (d .row) (bytesOf d))) (sym (eqb-true (d .row) y e))
+          ∙ own-row p (bytesOf d) (d .row) w (length-row (d .scene) (d .row)) h
+      by-test false e =
+          other-row p (bytesOf d) (d .row) w (length-row (d .scene) (d .row)) h y g (λ q. eqb-false (d .row) y e (sym q))
+
+whole-all : (ds : List Drawing) (p : List ℕ) → Whole p → Rows ds → Whole (drawAll ds p)
+unfolding drawAll
+whole-all [] p w r = w
+whole-all (d ∷ ds) p w r = whole-all ds (withRow p (d .row) (bytesOf d)) (whole-after d p w (r .0)) (r .1)
+
+-- Each row shows its last drawing, or what it showed before where it was not drawn.
+pub last-shows : (ds : List Drawing) (p : List ℕ) → Whole p → Rows ds → (y : ℕ) → y < 224 →
+    rowPart (drawAll ds p) y ≡ lastOf ds y (rowPart p y)
+unfolding drawAll lastOf
+last-shows [] p w r y h = refl
+last-shows (d ∷ ds) p w r y h =
+    last-shows ds (withRow p (d .row) (bytesOf d)) (whole-after d p w (r .0)) (r .1) y h ∙ ap (lastOf ds y) (row-after d p w (r .0) y h)
+
+-- So drawings with the same last ones leave the same picture.
+pub same-last : (ds es : List Drawing) (p : List ℕ) → Whole p → Rows ds → Rows es →
+    ((y : ℕ) → y < 224 → lastOf ds y (rowPart p y) ≡ lastOf es y (rowPart p y)) → drawAll ds p ≡ drawAll es p
+same-last ds es p w r t e =
+    one-picture (drawAll ds p) (drawAll es p) (whole-all ds p w r) (whole-all es p w t)
+    (λ y h. last-shows ds p w r y h ∙ (e y h ∙ sym (last-shows es p w t y h)))
+
+-- the last drawing is one of them, or there is none
+data Found (ds : List Drawing) (y : ℕ) (held out : List ℕ) : Type 0 where
+  untouched : ((d : Drawing) → List·Memᴰ d ds → d .row ≡ y → ⊥) → out ≡ held → Found ds y held out
+  drawn : (d : Drawing) → List·Memᴰ d ds → d .row ≡ y → out ≡ bytesOf d → Found ds y held out
+
+found : (ds : List Drawing) (y : ℕ) (held : List ℕ) → Found ds y held (lastOf ds y held)
+unfolding lastOf
+found [] y held = untouched (λ d m. absurd (List·Memᴰ·not-nil m)) refl
+found (d ∷ ds) y held = by-test (eqb (d .row) y) refl (found ds y (cond (eqb (d .row) y) (bytesOf d) held))
+  where
+    by-test : {out : List ℕ} (t : Bool) → eqb (d .row) y ≡ t → Found ds y (cond t (bytesOf d) held) out → Found (d ∷ ds) y held out
+    by-test t e (drawn c m q o) = drawn c (List·Memᴰ·tail m) q o
+    by-test true e (untouched n o) = drawn d (List·Memᴰ·head refl) (eqb-true (d .row) y e) o
+    by-test false e (untouched n o) =
+        untouched
+        (λ c m q. ⊎-elim (λ s. eqb-false (d .row) y e (sym (λ i. s i .row) ∙ q)) (λ t. n c t q) (List·Memᴰ·cases-cons m)) o
+
+-- different drawings are of different rows
+abbrev pub DifferentRows : List Drawing → Type 0
+DifferentRows ds = (d e : Drawing) → List·Memᴰ d ds → List·Memᴰ e ds → d .row ≡ e .row → d ≡ e
+
+abbrev pub Within : List Drawing → List Drawing → Type 0
+Within ds es = (d : Drawing) → List·Memᴰ d ds → List·Memᴰ d es
+
+-- Different rows, each with its own scene, leave the same picture in any drawing order.
+pub any-drawing-order : (ds es : List Drawing) (p : List ℕ) → Whole p → Rows ds → Rows es → DifferentRows ds → Within ds es → Within es ds →
+    drawAll ds p ≡ drawAll es p
+any-drawing-order ds es p w r t one to back =
+    same-last ds es p w r t (λ y h. agree (found ds y (rowPart p y)) (found es y (rowPart p y)))
+  where
+    agree : {y : ℕ} {held a b : List ℕ} → Found ds y held a → Found es y held b → a ≡ b
+    agree (untouched n o) (untouched m q) = o ∙ sym q
+    agree (untouched n o) (drawn e m s q) = absurd (n e (back e m) s)
+    agree (drawn d m s o) (untouched n q) = absurd (n d (to d m) s)
+    agree (drawn d m s o) (drawn e n u q) = o ∙ (ap bytesOf (one d e m (back e n) (s ∙ sym u)) ∙ sym q)
+
+-- A row drawn again shows its last drawing, whatever was drawn before it.
+ends : (ds : List Drawing) (d : Drawing) (held : List ℕ) → lastOf (ds ++ d ∷ []) (d .row) held ≡ bytesOf d
+unfolding lastOf
+ends [] d held = λ i. cond (eq-eqb (d .row) (d .row) refl i) (bytesOf d) held
+ends (c ∷ ds) d held = ends ds d (cond (eqb (c .row) (d .row)) (bytesOf c) held)
+
+pub drawn-again : (ds : List Drawing) (d : Drawing) (p : List ℕ) → Whole p → Rows (ds ++ d ∷ []) → d .row < 224 →
+    rowPart (drawAll (ds ++ d ∷ []) p) (d .row) ≡ bytesOf d
+drawn-again ds d p w r h = last-shows (ds ++ d ∷ []) p w r (d .row) h ∙ ends ds d (rowPart p (d .row))
+
+-- The same of calls: a run of calls of `render_into_picture` with the drawings ds. Each takes the picture that the one before
+-- left, and enters by its contract alone.
+pub data Calls : List ℕ → List Drawing → List ℕ → Type 0 where
+  none : {p : List ℕ} → Calls p [] p
+  call : {p q : List ℕ} {d : Drawing} {ds : List Drawing} (v : Verdict) (after : List ℕ) →
+      _≡_ {A = Outcome Unit (List ℕ)} (record { said = verdictMeans v; left = after }) (pictureOutcome (d .scene) (d .row) p) →
+      Calls after ds q → Calls p (d ∷ ds) q
+
+-- the scene and the row are not refused
+abbrev pub Drawable : Drawing → Type 0
+Drawable d = testsOf (d .scene) (d .row) true ≡ value tt
+
+-- so the first of its tests was passed
+first-passed : (t : Bool) (n : ℕ) (a b : Answer Unit) → (provided t n a andThen b) ≡ value tt → t ≡ true
+first-passed true n a b e = refl
+first-passed false n a b e = let z : _≡_ {A = ℕ} 0 1 = cc in absurd (omega arith)
+
+row-below : (d : Drawing) → Drawable d → d .row < 224
+row-below d e = ltb-true (d .row) 224 (first-passed (ltb (d .row) 224) 1 _ _ e)
+
+rows-below : (ds : List Drawing) → Each Drawable ds → Rows ds
+rows-below [] e = tt
+rows-below (d ∷ ds) e = (row-below d (e .0), rows-below ds (e .1))
+
+-- a run leaves the picture that its drawings leave
+calls-draw : {p q : List ℕ} (ds : List Drawing) → Whole p → Each Drawable ds → Calls p ds q → q ≡ drawAll ds p
+unfolding drawAll
+calls-draw [] w e none = refl
+calls-draw {p} (d ∷ ds) w e (call v after c r) =
+    let fine : testsOf (d .scene) (d .row) (eqb (length p) 172032) ≡ value tt =
+    ap (testsOf (d .scene) (d .row)) (eq-eqb (length p) 172032 w) ∙ e .0 in
+    let is : after ≡ withRow p (d .row) (bytesOf d) =
+    (λ i. c i .left) ∙ (λ i. outcome (fine i) tt (withRow p (d .row) (bytesOf d)) p .left) in
+    let whole : Whole after = ap (λ (l : List ℕ). length l) is ∙ whole-after d p w (row-below d (e .0)) in
+    calls-draw ds whole (e .1) r ∙ ap (drawAll ds) is
+
+-- so the order of calls with different rows never shows
+pub any-calls : {p q r : List ℕ} (ds es : List Drawing) → Whole p → Each Drawable ds → Each Drawable es → DifferentRows ds → Within ds es →
+    Within es ds → Calls p ds q → Calls p es r → q ≡ r
+any-calls {p} ds es w d e one to back c r =
+    calls-draw ds w d c ∙ (any-drawing-order ds es p w (rows-below ds d) (rows-below es e) one to back ∙ sym (calls-draw es w e r))

@@ -1,0 +1,58 @@
+// Two lent pictures, as the Rust's front and back buffers: the chosen one's row, handed back as its
+// own part.
+use composite::ROW_BYTES;
+use refusal::Refusal;
+use refusal::Verdict;
+use registers::constants::SCREEN_HEIGHT;
+use renderer::PICTURE_BYTES;
+ghost use mathlib.Core.Path.{_≡_};
+ghost use lib.ListN.{length};
+ghost use Rattle.refusal.specs.Verdicts.{verdictMeans, Passed};
+ghost use Rattle.pictures.specs.Pictures.{Sound, pictureTests, pictureRow};
+
+// The pictures to choose from.
+pub const PICTURES: usize = 2;
+
+fn tested(first: usize, second: usize, choice: usize, y: usize) -> Verdict
+    ensures { λ v. ⌜ (verdictMeans v ≡ pictureTests first second choice y) × (Passed v → Sound first second choice y) ⌝ }
+{
+    if y >= SCREEN_HEIGHT {
+        return Verdict::Refused(Refusal::Row);
+    }
+    if first != PICTURE_BYTES {
+        return Verdict::Refused(Refusal::Lent);
+    }
+    if second != PICTURE_BYTES {
+        return Verdict::Refused(Refusal::Lent);
+    }
+    if choice < PICTURES {
+        Verdict::Fine
+    } else {
+        Verdict::Refused(Refusal::Argument)
+    }
+}
+
+// Would the row be handed back? If not, the refusal.
+pub fn check_picture_row(first: &[u8], second: &[u8], choice: usize, y: usize) -> Verdict
+    ensures { λ v. ⌜ verdictMeans v ≡ pictureTests (length (now (first .entry))) (length (now (second .entry))) choice y ⌝ }
+{
+    tested(first.len(), second.len(), choice, y)
+}
+
+// Row y of the chosen picture, 0 or 1, as its own part. On a refusal the part is empty.
+pub fn picture_row<'a>(first: &'a [u8], second: &'a [u8], choice: usize, y: usize) -> &'a [u8]
+    ensures { λ p. ⌜ now p ≡ pictureRow (now (first .entry)) (now (second .entry)) choice y ⌝ }
+{
+    match tested(first.len(), second.len(), choice, y) {
+        Verdict::Fine => {
+            let start = y * ROW_BYTES;
+            let end = start + ROW_BYTES;
+            if choice == 0 {
+                &first[start..end]
+            } else {
+                &second[start..end]
+            }
+        }
+        Verdict::Refused(_) => &first[..0],
+    }
+}

@@ -1,0 +1,41 @@
+-- Document 01's proved edges, one table: its lines marked P, both sides of each, in the document's order.
+use mathlib.Core.Path.{_≡_, refl}
+use mathlib.Core.Bool.{true, false}
+use Rattle.registers.specs.declared.PPURegisters.{PPURegisters}
+use Rattle.mosaic.specs.Mosaic.{mosaicSize}
+use Rattle.colour.specs.Colour.{directColour, channelOf, light, brightnessOf}
+use Rattle.bg_map.specs.declared.BgParams.{BgParams}
+use Rattle.bg_map.specs.Source.{extentOf, sourceLine}
+use Rattle.bg_map.specs.Map.{entryOf}
+use Rattle.bg_map.specs.Edges.{entry-C403, line-254}
+use Rattle.sprites.specs.Edges.{SpriteEdges, sprite-edges}
+
+pub record Edges : Type 0 where
+  -- the lines on sprites: x9 504 and 505, 256, 500; top 250; tall 16x32 flipped; objsel low bits 0x1B
+  pub sprites : SpriteEdges
+  -- 0x7FFF at brightness 7: 123 each; at 15: 255
+  pub bright-7 : brightnessOf 0x7FFF 7 ≡ record { red = 123; green = 123; blue = 123 }
+  pub bright-15 : brightnessOf 0x7FFF 15 ≡ record { red = 255; green = 255; blue = 255 }
+  -- direct colour 255, palette 7: 0x73DE
+  pub direct : directColour 255 7 ≡ 0x73DE
+  -- entry 0xC403: tile 3, palette 1, low, both flips
+  pub entry : entryOf 0xC403 ≡ record { tile = 3; palette = 1; high = false; «flip_x» = true; «flip_y» = true }
+  -- mosaic size 4, counter 1, y 0, scroll 0, height 256: line 254
+  pub line : (r : PPURegisters) (p : BgParams) → mosaicSize r ≡ 4 → r .«mosaic_vcounter» ≡ 1 → p .mosaic ≡ true →
+      p .«scroll_y» ≡ 0 → extentOf (p .h64) (p .tile16) ≡ 256 → sourceLine r p 0 ≡ 254
+  -- add 31 and 31, halved: 15
+  pub add : channelOf 31 31 false true ≡ 15
+
+-- They hold.
+pub edges : Edges
+unfolding directColour brightnessOf light
+edges =
+    record {
+      sprites = sprite-edges;
+      bright-7 = refl;
+      bright-15 = refl;
+      direct = refl;
+      entry = entry-C403;
+      line = line-254;
+      add = refl;
+    }

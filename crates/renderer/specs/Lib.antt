@@ -1,0 +1,4 @@
+pub mod Renderer
+pub mod Edges
+pub mod Order
+pub mod Unlit

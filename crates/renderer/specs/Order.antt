@@ -1,0 +1,24 @@
+-- A row does not show the order of its laying: both lines, with the five layers laid over the backdrops in any order, each at
+-- least once, make the row.
+use Prim.Native.Nat.{ℕ, zero, suc}
+use mathlib.Core.Path.{_≡_, refl, ap}
+use mathlib.Core.List.{List, [], _∷_, List·Memᴰ·head, List·Memᴰ·tail}
+use native.Mathlib.Omega.{arith}
+use Rattle.composite.specs.Composite.{rowBytes}
+use Rattle.layers.specs.Layers.{Scene}
+use Rattle.layers.specs.Order.{AllFive, linesAfter, any-order}
+use Rattle.renderer.specs.Renderer.{rowOf}
+
+-- the order in which a row is drawn has all five
+all-five : AllFive (0 ∷ 1 ∷ 2 ∷ 3 ∷ 4 ∷ [])
+all-five zero h = List·Memᴰ·head refl
+all-five (suc zero) h = List·Memᴰ·tail (List·Memᴰ·head refl)
+all-five (suc (suc zero)) h = List·Memᴰ·tail (List·Memᴰ·tail (List·Memᴰ·head refl))
+all-five (suc (suc (suc zero))) h = List·Memᴰ·tail (List·Memᴰ·tail (List·Memᴰ·tail (List·Memᴰ·head refl)))
+all-five (suc (suc (suc (suc zero)))) h =
+    List·Memᴰ·tail (List·Memᴰ·tail (List·Memᴰ·tail (List·Memᴰ·tail (List·Memᴰ·head refl))))
+all-five (suc (suc (suc (suc (suc k))))) h = absurd (omega arith)
+
+pub row-of-any-order : (s : Scene) (y : ℕ) (ks : List ℕ) → AllFive ks → rowBytes (s .regs) (linesAfter s y ks) ≡ rowOf s y
+unfolding rowOf
+row-of-any-order s y ks m = ap (rowBytes (s .regs)) (any-order s y ks (0 ∷ 1 ∷ 2 ∷ 3 ∷ 4 ∷ []) m all-five)

@@ -1,0 +1,57 @@
+-- A row of a scene, and its part of a picture.
+use Prim.Native.Nat.{ℕ, _+_, _*_}
+use mathlib.Core.Path.{_≡_}
+use mathlib.Core.Bool.{Bool, true, false, cond}
+use mathlib.Core.List.{List, [], _∷_, _++_}
+use lib.ListN.{length, take, drop}
+use lib.Dec.{leb, eqb}
+use Rattle.refusal.specs.Answer.{Answer, value, provided, _andThen_, Outcome, outcome}
+use Rattle.lists.specs.Tab.{tab, length-tab}
+use Rattle.registers.specs.Screen as screen
+use Rattle.line.specs.declared.Lines.{Lines}
+use Rattle.laying.specs.Order.{layAll}
+use Rattle.sprites.specs.Sprites as sprites
+use Rattle.composite.specs.Composite.{colourAt, byteAt, blackRow, rowBytes}
+use Rattle.layers.specs.Layers.{Scene, layerShown, layerPixel, startLines}
+
+module _ (s : Scene) where
+  -- both lines of row y: the five layers over the backdrops
+  abbrev pub linesOf : ℕ → Lines
+  linesOf y = layAll (layerShown s) (layerPixel s y) (0 ∷ 1 ∷ 2 ∷ 3 ∷ 4 ∷ []) (startLines s)
+
+  -- the row's bytes
+  unfoldable pub rowOf : ℕ → List ℕ
+  rowOf y = rowBytes (s .regs) (linesOf y)
+
+-- a picture with other bytes in row y's part, from y x 768
+unfoldable pub withRow : List ℕ → ℕ → List ℕ → List ℕ
+withRow picture y row = take (y * 768) picture ++ (row ++ drop (y * 768 + 768) picture)
+
+-- a lent row or picture of another length is refused 5, a counter above 16 6
+abbrev pub lentTests : Bool → ℕ → Answer Unit
+lentTests lent counter = provided lent 5 (provided (leb counter 16) 6 (value tt))
+
+-- before these a row above 223 is refused 1, VRAM of another length 2, colour memory 3, sprite memory 4
+abbrev pub rowTests : ℕ → ℕ → ℕ → ℕ → Bool → ℕ → Answer Unit
+rowTests y words colours bytes lent counter = sprites.rowTests y words colours bytes true andThen lentTests lent counter
+
+abbrev pub testsOf : Scene → ℕ → Bool → Answer Unit
+testsOf s y lent = rowTests y (length (s .vram)) (length (s .cgram)) (length (s .oam)) lent (s .regs .«mosaic_vcounter»)
+
+-- what drawing row y leaves of a lent row
+abbrev pub rowOutcome : Scene → ℕ → List ℕ → Outcome Unit (List ℕ)
+rowOutcome s y row = outcome (testsOf s y (eqb (length row) 768)) tt (rowOf s y) row
+
+-- and of a lent picture
+abbrev pub pictureOutcome : Scene → ℕ → List ℕ → Outcome Unit (List ℕ)
+pictureOutcome s y picture = outcome (testsOf s y (eqb (length picture) 172032)) tt (withRow picture y (rowOf s y)) picture
+
+-- a row has 768 bytes
+by-blank : (t : Bool) (f : ℕ → ℕ) → length (cond t blackRow (tab 768 f)) ≡ 768
+unfolding blackRow
+by-blank true f = length-tab (λ i. 0) 768
+by-blank false f = length-tab f 768
+
+pub length-row : (s : Scene) (y : ℕ) → length (rowOf s y) ≡ 768
+unfolding rowOf rowBytes
+length-row s y = by-blank (screen.blanked (s .regs)) (byteAt (colourAt (s .regs) (linesOf s y)) (screen.brightnessOf (s .regs)))

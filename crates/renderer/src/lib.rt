@@ -1,0 +1,99 @@
+// A whole row: backdrops, backgrounds, sprites, composite; into a lent row, and into its part of a
+// lent picture. Follows renderer.rs, with its names.
+pub mod inner;
+
+use composite::ROW_BYTES;
+use refusal::Refusal;
+use refusal::Verdict;
+use registers::PPURegisters;
+use registers::constants::LARGEST_COUNTER;
+ghost use mathlib.Core.Path.{_≡_};
+ghost use mathlib.Core.Bool.{true};
+ghost use Rattle.refusal.specs.Verdicts.{verdictMeans, Passed};
+ghost use Rattle.sprites.specs.Sprites.{Sound};
+ghost use Rattle.layers.specs.Layers.{scene};
+ghost use Rattle.renderer.specs.Renderer.{lentTests, rowTests, rowOutcome, pictureOutcome};
+
+// The bytes of a picture.
+pub const PICTURE_BYTES: usize = 172032;
+
+// The last tests of both calls; `lent` says that the lent row or picture has its length.
+fn lent_tested(lent: bool, counter: u8) -> Verdict
+    ensures { λ v. ⌜ (verdictMeans v ≡ lentTests lent counter) × (Passed v → (lent ≡ true)) ⌝ }
+{
+    if lent {
+        if counter <= LARGEST_COUNTER {
+            return Verdict::Fine;
+        }
+        return Verdict::Refused(Refusal::Counter);
+    }
+    Verdict::Refused(Refusal::Lent)
+}
+
+// All their tests.
+fn tested(y: usize, words: usize, colours: usize, bytes: usize, lent: bool, counter: u8) -> Verdict
+    ensures { λ v. ⌜ (verdictMeans v ≡ rowTests y words colours bytes lent counter) × (Passed v → Sound colours bytes y × (lent ≡ true)) ⌝ }
+{
+    match sprites::inner::tested(y, words, colours, bytes, true) {
+        Verdict::Fine => lent_tested(lent, counter),
+        Verdict::Refused(n) => Verdict::Refused(n),
+    }
+}
+
+// Draws row y into a lent row.
+pub fn render_scanline(
+    row: &mut [u8],
+    vram: &[u16],
+    cgram: &[u16],
+    oam: &[u8],
+    r: PPURegisters,
+    y: usize,
+) -> Verdict
+    ensures { λ v. ⌜ record { said = verdictMeans v; left = now (row .exit) } ≡ rowOutcome (scene r (now (vram .entry)) (now (cgram .entry)) (now (oam .entry))) y (now (row .entry)) ⌝ }
+{
+    let lent = row.len() == ROW_BYTES;
+    match tested(
+        y,
+        vram.len(),
+        cgram.len(),
+        oam.len(),
+        lent,
+        r.mosaic_vcounter,
+    ) {
+        Verdict::Fine => {
+            inner::render(row, vram, cgram, oam, r, y);
+            Verdict::Fine
+        }
+        Verdict::Refused(n) => Verdict::Refused(n),
+    }
+}
+
+// Draws row y into its part of a lent picture.
+pub fn render_into_picture(
+    picture: &mut [u8],
+    vram: &[u16],
+    cgram: &[u16],
+    oam: &[u8],
+    r: PPURegisters,
+    y: usize,
+) -> Verdict
+    ensures { λ v. ⌜ record { said = verdictMeans v; left = now (picture .exit) } ≡ pictureOutcome (scene r (now (vram .entry)) (now (cgram .entry)) (now (oam .entry))) y (now (picture .entry)) ⌝ }
+{
+    let lent = picture.len() == PICTURE_BYTES;
+    match tested(
+        y,
+        vram.len(),
+        cgram.len(),
+        oam.len(),
+        lent,
+        r.mosaic_vcounter,
+    ) {
+        Verdict::Fine => {
+            let start = y * ROW_BYTES;
+            let end = start + ROW_BYTES;
+            inner::render(&mut picture[start..end], vram, cgram, oam, r, y);
+            Verdict::Fine
+        }
+        Verdict::Refused(n) => Verdict::Refused(n),
+    }
+}
