@@ -8,6 +8,7 @@ mod oam;
 mod outside;
 mod port;
 mod registers;
+mod rows;
 mod screen;
 mod sprites;
 mod tiles;
@@ -27,10 +28,11 @@ fn main() -> ExitCode {
         ["port"] => port::list(),
         ["background"] => background::list(),
         ["sprites"] => sprites::list(),
+        ["rows"] => rows::list(),
         ["outside"] => outside::list(),
         _ => {
             eprintln!(
-                "usage: oracle colour | tiles | registers | oam | choice | port | background | sprites | outside"
+                "usage: oracle colour | tiles | registers | oam | choice | port | background | sprites | rows | outside"
             );
             return ExitCode::from(2);
         }

@@ -36,6 +36,13 @@ impl Screen {
         }
     }
 
+    /// The bytes of a row, as the registers stand.
+    pub fn row(&mut self, y: u32) -> &[u8] {
+        self.renderer.render_scanline(&self.ppu, y as usize);
+        let at = y as usize * 768;
+        &self.renderer.framebuffer[at..at + 768]
+    }
+
     /// The row, with these bits of cgwsel beside direct colour's, and this cgadsub.
     pub fn drawn(&mut self, y: u32, cgwsel: u8, cgadsub: u8) -> Row {
         let kept = self.ppu.regs.cgwsel;

@@ -1,6 +1,6 @@
 -- What a row need not do: the colour window where no region asks for it, and math where no layer takes part or no region allows it.
 use Prim.Native.Nat.{ℕ}
-use mathlib.Core.Path.{_≡_, refl, sym, _∙_}
+use mathlib.Core.Path.{_≡_, refl, sym, ap, _∙_}
 use mathlib.Core.Bool.{Bool, true, false, cond, not, _&&_, _||_, true≢false, and-false}
 use Rattle.registers.specs.Bits.{bitOf}
 use Rattle.line.specs.declared.Layer.{Layer}
@@ -46,6 +46,11 @@ module _ (s : ColorMath) (main sub : LinePixel) where
   asked true t e = refl
   asked false t e = same-colour false t (sym e)
 
+  -- the colour, where math takes part and where it does not
+  abbrev mixed : Bool → Bool → ℕ
+  mixed on inside =
+      cond on (mathOf (keptColour s main inside) (operandOf s sub) (s .subtract) (halves s sub inside)) (keptColour s main inside)
+
   -- without a layer there is no math
   no-bit : (l : Layer) → bitOf 0 (mathBit l) ≡ false
   no-bit Backdrop = refl
@@ -55,19 +60,16 @@ module _ (s : ColorMath) (main sub : LinePixel) where
   no-bit Bg4 = refl
   no-bit Obj = refl
 
-  idle : (inside on : Bool) → on ≡ false → cond on (mathOf (keptColour s main inside) (operandOf s sub) (s .subtract) (halves s sub inside)) (keptColour s main inside) ≡ keptColour s main inside
-  idle inside on e = λ i. cond (e i) (mathOf (keptColour s main inside) (operandOf s sub) (s .subtract) (halves s sub inside)) (keptColour s main inside)
-
   pub no-layer : (inside : Bool) → s .layers ≡ 0 → keptColour s main inside ≡ colourOf s main sub inside
   unfolding colourOf
   no-layer inside e =
       let marked = main .«obj_math» || not (markNeeded (main .layer)) in
       let allowed = region (s .«math_region») inside in
-      let off : enabled (s .layers) main ≡ false = (λ i. bitOf (e i) (mathBit (main .layer)) && marked) ∙ (λ i. no-bit (main .layer) i && marked) in
-      sym (idle inside (allowed && enabled (s .layers) main) ((λ i. allowed && off i) ∙ and-false allowed))
+      let off : enabled (s .layers) main ≡ false =
+      (λ i. bitOf (e i) (mathBit (main .layer)) && marked) ∙ (λ i. no-bit (main .layer) i && marked) in
+      sym (ap (λ (on : Bool). mixed on inside) ((λ i. allowed && off i) ∙ and-false allowed))
 
   -- nor where no region allows it
   pub nowhere : (inside : Bool) → s .«math_region» ≡ 3 → keptColour s main inside ≡ colourOf s main sub inside
   unfolding colourOf
-  nowhere inside e =
-      sym (idle inside (region (s .«math_region») inside && enabled (s .layers) main) (λ i. region (e i) inside && enabled (s .layers) main))
+  nowhere inside e = λ i. mixed (region (sym e i) inside && enabled (s .layers) main) inside

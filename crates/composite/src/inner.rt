@@ -9,6 +9,7 @@ use laying::inner::mask;
 use line::LinePixel;
 use line::Lines;
 use registers::PPURegisters;
+use registers::constants::SCREEN_WIDTH;
 use windows::inner::color_window;
 ghost use mathlib.Core.Path.{_≡_};
 ghost use mathlib.Core.Bool.{false, cond};
@@ -63,7 +64,7 @@ fn brighten(row: &mut [u8], colors: [u16; 256], brightness: u16)
     requires { ⌜ (length (now row) ≡ 768) × (brightness < 16) ⌝ }
     ensures { λ u. ⌜ now (row .exit) ≡ tab 768 (byteAt (λ x. getD colors x 0) brightness) ⌝ }
 {
-    for x in 0..256 {
+    for x in 0..SCREEN_WIDTH {
         let c = colors[x];
         row[x * 3] = lighten(c % 32, brightness);
         row[x * 3 + 1] = lighten(c / 32 % 32, brightness);

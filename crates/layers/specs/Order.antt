@@ -53,7 +53,8 @@ module _ (s : Scene) (y : ℕ) where
   -- enters by its contract alone.
   pub data Calls : Lines → List ℕ → Lines → Type 0 where
     none : {l : Lines} → Calls l [] l
-    call : {l m : Lines} {k : ℕ} {ks : List ℕ} (a : LinesAnswer) → linesMean a ≡ layerOutcome s y k l → Calls (a .lines) ks m → Calls l (k ∷ ks) m
+    call : {l m : Lines} {k : ℕ} {ks : List ℕ} (a : LinesAnswer) → linesMean a ≡ layerOutcome s y k l →
+        Calls (a .lines) ks m → Calls l (k ∷ ks) m
 
   -- on a row that is drawn it leaves what its layers leave
   calls-lay : testsOf s y true ≡ value tt → {l m : Lines} (ks : List ℕ) → Each (λ k. k < 5) ks → Calls l ks m →

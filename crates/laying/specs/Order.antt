@@ -128,11 +128,14 @@ module _ {S : Type 0} where
         (sym (lays-at ks (backdropLine colour) x h ∙ ap (laid (at x) ks) (getD-backdrop colour x h)))
         (laid-seen (at x) ks (backdropOf colour) refl m)
 
-    one-line : (ks js : List S) → Covers at ks → Covers at js → ((x : ℕ) → x < 256 → NoTies (at x)) → (colour : ℕ) → lays c ks (backdropLine colour) ≡ lays c js (backdropLine colour)
+    one-line : (ks js : List S) → Covers at ks → Covers at js → ((x : ℕ) → x < 256 → NoTies (at x)) → (colour : ℕ) →
+        lays c ks (backdropLine colour) ≡ lays c js (backdropLine colour)
     one-line ks js m n t colour =
         let long = length-lays ks (backdropLine colour) (length-backdrop colour) in
         ext-getD noPixel _ _ (long ∙ sym (length-lays js (backdropLine colour) (length-backdrop colour)))
-        (λ x h. let b : x < 256 = omega (arith, long) in one-seen (t x b) (lays-seen ks colour x b (m x b)) (lays-seen js colour x b (n x b)))
+        (λ x h.
+        let b : x < 256 = omega (arith, long) in
+        one-seen (t x b) (lays-seen ks colour x b (m x b)) (lays-seen js colour x b (n x b)))
 
   module _ (shown : S → Shown) (row : S → ℕ → Candidate) where
     -- both lines after the layers ks, in that order, one laying after another
@@ -171,8 +174,8 @@ module _ {S : Type 0} where
         one-screen ks js m n t = sym (from-start ks) ∙ (one-line (λ k y. on y k) ks js m n t colour ∙ from-start js)
 
     module _ (main sub : ℕ) where
-      -- From the backdrops, every layer that has a candidate laid at least once, in whatever order: at each pixel of the main line the candidate of
-      -- greatest priority is seen, or the backdrop where there is none.
+      -- From the backdrops, every layer that has a candidate laid at least once, in whatever order: at each pixel of the main
+      -- line the candidate of greatest priority is seen, or the backdrop where there is none.
       pub main-seen : (ks : List S) → Covers mainAt ks → (x : ℕ) → x < 256 →
           Seen (mainAt x) (backdropOf main) (getD (layAll ks (backdropLines main sub) .main) x noPixel)
       main-seen = screen-seen (λ l. l .main) mainAt main (λ k l. refl) (backdropLines main sub) refl

@@ -5,3 +5,4 @@ pub mod Runs
 pub mod Places
 pub mod Each
 pub mod Apart
+pub mod Changed

@@ -98,8 +98,8 @@ abbrev pub Within : List Drawing → List Drawing → Type 0
 Within ds es = (d : Drawing) → List·Memᴰ d ds → List·Memᴰ d es
 
 -- Different rows, each with its own scene, leave the same picture in any drawing order.
-pub any-drawing-order : (ds es : List Drawing) (p : List ℕ) → Whole p → Rows ds → Rows es → DifferentRows ds → Within ds es → Within es ds →
-    drawAll ds p ≡ drawAll es p
+pub any-drawing-order : (ds es : List Drawing) (p : List ℕ) → Whole p → Rows ds → Rows es → DifferentRows ds → Within ds es →
+    Within es ds → drawAll ds p ≡ drawAll es p
 any-drawing-order ds es p w r t one to back =
     same-last ds es p w r t (λ y h. agree (found ds y (rowPart p y)) (found es y (rowPart p y)))
   where
@@ -156,7 +156,7 @@ calls-draw {p} (d ∷ ds) w e (call v after c r) =
     calls-draw ds whole (e .1) r ∙ ap (drawAll ds) is
 
 -- so the order of calls with different rows never shows
-pub any-calls : {p q r : List ℕ} (ds es : List Drawing) → Whole p → Each Drawable ds → Each Drawable es → DifferentRows ds → Within ds es →
-    Within es ds → Calls p ds q → Calls p es r → q ≡ r
+pub any-calls : {p q r : List ℕ} (ds es : List Drawing) → Whole p → Each Drawable ds → Each Drawable es → DifferentRows ds →
+    Within ds es → Within es ds → Calls p ds q → Calls p es r → q ≡ r
 any-calls {p} ds es w d e one to back c r =
     calls-draw ds w d c ∙ (any-drawing-order ds es p w (rows-below ds d) (rows-below es e) one to back ∙ sym (calls-draw es w e r))

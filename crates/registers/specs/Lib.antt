@@ -1,3 +1,4 @@
 pub mod Bits
 pub mod Answers
 pub mod Screen
+pub mod Coldata

@@ -2,3 +2,4 @@ pub mod Renderer
 pub mod Edges
 pub mod Order
 pub mod Unlit
+pub mod Bit15

@@ -1,0 +1,21 @@
+// Replays the oracle's list `rows`: all rows of whole scenes.
+mod columns;
+mod kinds;
+mod memory;
+mod rows;
+mod scene;
+mod sprite_memory;
+
+fn main() {
+    let mut vram = [0u16; 32768];
+    let mut cgram = [0u16; 256];
+    let mut picture = [0u8; 172032];
+    let other = [0u8; 172032];
+    let mut x: u32 = 60;
+    io::write_all(1, b"scenes\n");
+    for filling in 0..8u16 {
+        x = memory::fill_vram(&mut vram, filling, x);
+        x = memory::fill_cgram(&mut cgram, x);
+        x = rows::sixteen(&mut picture, &other, &vram, &cgram, filling, x);
+    }
+}
