@@ -4,17 +4,14 @@ use mathlib.Core.Path.{_≡_, sym, subst}
 use mathlib.Core.Bool.{Bool, true, false, cond}
 use native.Mathlib.Omega.{arith}
 use lib.Dec.{eqb}
-use borrow.Author.Tests.{lt-ltb}
 use Rattle.registers.specs.declared.PPURegisters.{PPURegisters}
 use Rattle.line.specs.declared.Layer.the-variants.{Bg1, Bg2, Bg3, Bg4}
-use Rattle.line.specs.declared.Candidate.{Candidate}
-use Rattle.line.specs.Pixels.{none, backgroundOf}
+use Rattle.line.specs.Pixels.{backgroundOf}
 use Rattle.bg_map.specs.declared.BgParams.{BgParams}
 use Rattle.bg_row.specs.Row as row
 use Rattle.background.specs.Background as background
 use Rattle.sprites.specs.Sprites as sprites
 use Rattle.modes.specs.Modes.{paramsOf}
-use Rattle.layers.specs.Layers.{Scene, layerShown, layerPixel}
 
 -- a background's parameters are of a background
 low-layer : (z o t : Bool) → backgroundOf (cond z Bg1 (cond o Bg2 (cond t Bg3 Bg4))) < 4
