@@ -9,8 +9,6 @@ use Rattle.line.specs.declared.Layer.the-variants.{Bg1, Bg2, Bg3, Bg4}
 use Rattle.line.specs.Pixels.{backgroundOf}
 use Rattle.bg_map.specs.declared.BgParams.{BgParams}
 use Rattle.bg_row.specs.Row as row
-use Rattle.background.specs.Background as background
-use Rattle.sprites.specs.Sprites as sprites
 use Rattle.modes.specs.Modes.{paramsOf}
 
 -- a background's parameters are of a background
@@ -20,7 +18,7 @@ low-layer false true t = omega arith
 low-layer false false true = omega arith
 low-layer false false false = omega arith
 
-pub own-number : (r : PPURegisters) (b : ℕ) → backgroundOf (paramsOf r b .layer) < 4
+own-number : (r : PPURegisters) (b : ℕ) → backgroundOf (paramsOf r b .layer) < 4
 unfolding paramsOf
 own-number r b = low-layer (eqb b 0) (eqb b 1) (eqb b 2)
 
@@ -32,5 +30,6 @@ sound r b g y e = record {
   row = y;
 }
 
+-- the last of the five
 pub is-four : (k : ℕ) → 4 ≤ k → k < 5 → k ≡ 4
 is-four k l h = omega arith

@@ -28,15 +28,24 @@ abbrev pub scene : PPURegisters → List ℕ → List ℕ → List ℕ → Scene
 scene r v g o = record { regs = r; vram = v; cgram = g; oam = o }
 
 module _ (s : Scene) where
+  -- where background k is shown, and its pixel at column x of row y
+  abbrev pub bgShown : ℕ → Shown
+  bgShown k = background.shownOf (s .regs) (paramsOf (s .regs) k)
+
+  abbrev pub bgAt : ℕ → ℕ → ℕ → Candidate
+  bgAt y k x = bgPixel (s .vram) (s .cgram) (s .regs) (paramsOf (s .regs) k) y x
+
+  -- the sprites' pixel there
+  abbrev pub spriteAt : ℕ → ℕ → Candidate
+  spriteAt y x = sprites.spritePixel (s .vram) (s .cgram) (s .oam) (s .regs) y x
+
   -- where layer k is shown
   unfoldable pub layerShown : ℕ → Shown
-  layerShown k = cond (ltb k 4) (background.shownOf (s .regs) (paramsOf (s .regs) k)) (sprites.shownOf (s .regs))
+  layerShown k = cond (ltb k 4) (bgShown k) (sprites.shownOf (s .regs))
 
-  -- its pixel at column x of row y, and whether it is opaque; there is no layer above 4
+  -- its pixel, and whether it is opaque; there is no layer above 4
   unfoldable pub layerPixel : ℕ → ℕ → ℕ → Candidate
-  layerPixel y k x =
-      cond (ltb k 4) (bgPixel (s .vram) (s .cgram) (s .regs) (paramsOf (s .regs) k) y x)
-      (cond (eqb k 4) (sprites.spritePixel (s .vram) (s .cgram) (s .oam) (s .regs) y x) none)
+  layerPixel y k x = cond (ltb k 4) (bgAt y k x) (cond (eqb k 4) (spriteAt y x) none)
 
   -- its candidates there
   abbrev pub layerCandidates : ℕ → ℕ → ℕ → Candidates

@@ -31,7 +31,7 @@ use Rattle.sprites.specs.Sprites as sprites
 use Rattle.modes.specs.declared.BgMode.{BgMode}
 use Rattle.modes.specs.Modes.{lacks, modeRows, bgModeOf, paramsOf}
 use Rattle.modes.specs.Ties.{prioritiesOf, spritePriorities, layerPriorities, four-rows, no-shared-priority}
-use Rattle.layers.specs.Layers.{Scene, layerShown, layerPixel}
+use Rattle.layers.specs.Layers.{Scene, bgShown, bgAt, spriteAt, layerShown, layerPixel}
 use Rattle.layers.specs.Numbers.{shown-low, pixel-low, pixel-four, pixel-none}
 
 -- a number is equal to itself
@@ -85,7 +85,8 @@ module _ (v g : List ℕ) (view : View) (limit : ℕ) where
       (fetched-fair s (fetchedOf limit (view .objsel) s later) x) (line-fair later x)
 
 -- what is a candidate on a screen is opaque, and shown there
-seen-on : (shown : Bool) (c : Candidate) → onScreen shown c .opaque ≡ true → (onScreen shown c ≡ c) × ((c .opaque ≡ true) × (shown ≡ true))
+seen-on : (shown : Bool) (c : Candidate) → onScreen shown c .opaque ≡ true →
+    (onScreen shown c ≡ c) × ((c .opaque ≡ true) × (shown ≡ true))
 seen-on shown c = by-test (c .opaque && shown) refl
   where
     by-test : (t : Bool) → c .opaque && shown ≡ t → cond t c none .opaque ≡ true →
@@ -101,7 +102,8 @@ module _ (s : Scene) (y : ℕ) where
   abbrev priorities : ℕ → List ℕ
   priorities k = getD (layerPriorities (modeRows mode)) k []
 
-  priorities-low : (k : ℕ) → k < 4 → bgModeOf mode k .present ≡ true → bgModeOf mode k .low ∷ bgModeOf mode k .high ∷ [] ≡ priorities k
+  priorities-low : (k : ℕ) → k < 4 → bgModeOf mode k .present ≡ true →
+      bgModeOf mode k .low ∷ bgModeOf mode k .high ∷ [] ≡ priorities k
   unfolding bgModeOf
   priorities-low k h e =
       let f : BgMode → List ℕ = λ m. prioritiesOf (m .present) (m .low) (m .high) in
@@ -118,7 +120,7 @@ module _ (s : Scene) (y : ℕ) where
 
   -- a background's pixel has a priority of its own
   own-pixel : (k x : ℕ) →
-      holds (bgModeOf mode k .low ∷ bgModeOf mode k .high ∷ []) (bgPixel (s .vram) (s .cgram) (s .regs) (paramsOf (s .regs) k) y x .pixel .z .0) ≡ true
+      holds (bgModeOf mode k .low ∷ bgModeOf mode k .high ∷ []) (bgAt s y k x .pixel .z .0) ≡ true
   unfolding bgPixel pixelAt paramsOf
   own-pixel k x =
       let p = paramsOf (s .regs) k in
@@ -126,7 +128,7 @@ module _ (s : Scene) (y : ℕ) where
 
   -- Said once of a screen: what shows a layer there, and that it shows only backgrounds that the mode has.
   module _ (on : Shown → ℕ → Bool)
-      (only : (k x : ℕ) → on (background.shownOf (s .regs) (paramsOf (s .regs) k)) x ≡ true → bgModeOf mode k .present ≡ true) where
+      (only : (k x : ℕ) → on (bgShown s k) x ≡ true → bgModeOf mode k .present ≡ true) where
     abbrev candidate : ℕ → ℕ → Candidate
     candidate x k = onScreen (on (layerShown s k) x) (layerPixel s y k x)
 
@@ -134,17 +136,15 @@ module _ (s : Scene) (y : ℕ) where
     Own k c = c .opaque ≡ true → holds (priorities k) (c .pixel .z .0) ≡ true
 
     own-low : (k x : ℕ) → k < 4 →
-        Own k (onScreen (on (background.shownOf (s .regs) (paramsOf (s .regs) k)) x) (bgPixel (s .vram) (s .cgram) (s .regs) (paramsOf (s .regs) k) y x))
+        Own k (onScreen (on (bgShown s k) x) (bgAt s y k x))
     own-low k x h o =
-        let p = paramsOf (s .regs) k in
-        let seen = seen-on (on (background.shownOf (s .regs) p) x) (bgPixel (s .vram) (s .cgram) (s .regs) p y x) o in
+        let seen = seen-on (on (bgShown s k) x) (bgAt s y k x) o in
         (λ i. holds (sym (priorities-low k h (only k x (seen .1 .1))) i) (seen .0 i .pixel .z .0)) ∙ own-pixel k x
 
-    own-four : (k x : ℕ) (shown : Bool) → k ≡ 4 → Own k (onScreen shown (sprites.spritePixel (s .vram) (s .cgram) (s .oam) (s .regs) y x))
+    own-four : (k x : ℕ) (shown : Bool) → k ≡ 4 → Own k (onScreen shown (spriteAt s y x))
     unfolding sprites.spritePixel
     own-four k x shown e o =
-        let c = sprites.spritePixel (s .vram) (s .cgram) (s .oam) (s .regs) y x in
-        let seen = seen-on shown c o in
+        let seen = seen-on shown (spriteAt s y x) o in
         (λ i. holds (sym (priorities-four k e) i) (seen .0 i .pixel .z .0))
         ∙ line-fair (s .vram) (s .cgram) (sprites.viewOf (s .regs) y) tileLimit (sprites.chosenSprites (s .oam) (s .regs) y) x (seen .1 .0)
 
@@ -179,13 +179,14 @@ module _ (s : Scene) (y : ℕ) where
         by-test : (t : Bool) → ltb k 5 ≡ t → k < 5
         by-test true e = ltb-true k 5 e
         by-test false e =
-            absurd (false≢true (subst (λ (c : Candidate). c .opaque ≡ true) (λ i. onScreen (on (layerShown s k) x) (sym (pixel-none s k y (ltb-false k 5 e)) i x)) o))
+            let gone = sym (pixel-none s k y (ltb-false k 5 e)) in
+            absurd (false≢true (subst (λ (c : Candidate). c .opaque ≡ true) (λ i. onScreen (on (layerShown s k) x) (gone i x)) o))
 
-  only-main : (k x : ℕ) → onMain (background.shownOf (s .regs) (paramsOf (s .regs) k)) x ≡ true → bgModeOf mode k .present ≡ true
+  only-main : (k x : ℕ) → onMain (bgShown s k) x ≡ true → bgModeOf mode k .present ≡ true
   unfolding background.shownOf paramsOf
   only-main k x e = and-eq-true-iff (bgModeOf mode k .present) (bitOf (s .regs .tm) k) .0 (and-eq-true-iff _ _ .0 e .0) .0
 
-  only-sub : (k x : ℕ) → onSub (background.shownOf (s .regs) (paramsOf (s .regs) k)) x ≡ true → bgModeOf mode k .present ≡ true
+  only-sub : (k x : ℕ) → onSub (bgShown s k) x ≡ true → bgModeOf mode k .present ≡ true
   unfolding background.shownOf paramsOf
   only-sub k x e = and-eq-true-iff (bgModeOf mode k .present) (bitOf (s .regs .ts) k) .0 (and-eq-true-iff _ _ .0 e .0) .0
 

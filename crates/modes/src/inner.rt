@@ -31,6 +31,7 @@ const LACKS: BgMode = BgMode {
 const MODE_0: [BgMode; 4] = [MODE_0_BG1, MODE_0_BG2, MODE_0_BG3, MODE_0_BG4];
 
 const MODE_1: [BgMode; 4] = [MODE_1_BG1, MODE_1_BG2, MODE_1_BG3, LACKS];
+
 // Mode 1 with bgmode bit 3: BG3's high priority is before all others.
 const MODE_1_LIFTED: [BgMode; 4] = [MODE_1_BG1, MODE_1_BG2, MODE_1_BG3_LIFTED, LACKS];
 

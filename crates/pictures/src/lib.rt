@@ -8,7 +8,7 @@ use renderer::PICTURE_BYTES;
 ghost use mathlib.Core.Path.{_≡_};
 ghost use lib.ListN.{length};
 ghost use Rattle.refusal.specs.Verdicts.{verdictMeans, Passed};
-ghost use Rattle.pictures.specs.Pictures.{Sound, pictureTests, pictureRow};
+ghost use Rattle.pictures.specs.Pictures.{Sound, pictureTests, lent, pictureRow};
 
 // The pictures to choose from.
 pub const PICTURES: usize = 2;
@@ -41,7 +41,7 @@ pub fn check_picture_row(first: &[u8], second: &[u8], choice: usize, y: usize) -
 
 // Row y of the chosen picture, 0 or 1, as its own part. On a refusal the part is empty.
 pub fn picture_row<'a>(first: &'a [u8], second: &'a [u8], choice: usize, y: usize) -> &'a [u8]
-    ensures { λ p. ⌜ now p ≡ pictureRow (now (first .entry)) (now (second .entry)) choice y ⌝ }
+    ensures { λ p. ⌜ lent p ≡ pictureRow (lent (first .entry)) (lent (second .entry)) choice y ⌝ }
 {
     match tested(first.len(), second.len(), choice, y) {
         Verdict::Fine => {

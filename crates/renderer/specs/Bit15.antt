@@ -11,7 +11,6 @@ use Rattle.registers.specs.Coldata.{withColdata}
 use Rattle.windows.specs.Windows.{windowOf}
 use Rattle.colour.specs.Colour.{directColour}
 use Rattle.colour.specs.Bit15.{SameColour, direct-clear}
-use Rattle.line.specs.declared.Candidate.{Candidate}
 use Rattle.line.specs.Pixels.{none, backdropLine}
 use Rattle.line.specs.Recoloured.{recoloured, recolouredLines, one-recoloured, there-recoloured}
 use Rattle.laying.specs.Order.{layAll}
@@ -25,7 +24,7 @@ use Rattle.choice.specs.Choice.{tileLimit}
 use Rattle.sprite_fetch.specs.Recoloured.{sprites-recoloured}
 use Rattle.sprites.specs.Sprites as sprites
 use Rattle.sprites.specs.Sprites.{viewOf, chosenSprites, spritePixel}
-use Rattle.layers.specs.Layers.{Scene, layerShown, layerPixel, startLines}
+use Rattle.layers.specs.Layers.{Scene, bgAt, spriteAt, layerShown, layerPixel, startLines}
 use Rattle.composite.specs.Composite.{rowBytes}
 use Rattle.composite.specs.Bit15.{row-blind}
 use Rattle.renderer.specs.Renderer.{linesOf, rowOf}
@@ -50,14 +49,6 @@ same c = omega arith
 -- direct colour has it clear already
 direct-kept : (i n : ℕ) → low15 (directColour i n) ≡ directColour i n
 direct-kept i n = omega (arith, direct-clear i n)
-
--- the pixel of background k at column x of row y
-abbrev bgAt : Scene → ℕ → ℕ → ℕ → Candidate
-bgAt s y k x = bgPixel (s .vram) (s .cgram) (s .regs) (paramsOf (s .regs) k) y x
-
--- and the sprites'
-abbrev spriteAt : Scene → ℕ → ℕ → Candidate
-spriteAt s y x = spritePixel (s .vram) (s .cgram) (s .oam) (s .regs) y x
 
 module _ (s : Scene) where
   -- the layers are shown where they were

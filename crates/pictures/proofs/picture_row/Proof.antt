@@ -5,7 +5,7 @@ use lib.ListN.{length}
 use denote.Ref.{now}
 use borrow.Author.Tests.{eq-eqb, ne-eqb}
 use Rattle.refusal.specs.Verdicts.{passed}
-use Rattle.pictures.specs.Pictures.{Sound}
+use Rattle.pictures.specs.Pictures.{Sound, lent}
 use Rattle.pictures.proofs.Handed.{fine-row, no-row}
 use borrow.Author.Needs.{needs}
 use Rattle.pictures.proofs.picture_row.Statement.{statement}
@@ -34,8 +34,8 @@ returns c =
     let t = e .before .before in
     let a = t .before .before .before .args in
     let zero = c .before .if1 .taken in
-    fine-row (now (a .first)) (now (a .second)) (a .choice) (a .y) _ (t .tested .ensures .0) _ (e .enum-told .given .1)
-    (λ i. cond (sym (eq-eqb (a .choice) 0 zero) i) (now (a .first)) (now (a .second)))
+    fine-row (lent (a .first)) (lent (a .second)) (a .choice) (a .y) _ (t .tested .ensures .0) _ (e .enum-told .given .1)
+    (λ i. cond (sym (eq-eqb (a .choice) 0 zero) i) (lent (a .first)) (lent (a .second)))
 
 returns-2 : tie.Need-returns-2
 returns-2 c =
@@ -43,15 +43,15 @@ returns-2 c =
     let t = e .before .before in
     let a = t .before .before .before .args in
     let other = c .before .if1 .left in
-    fine-row (now (a .first)) (now (a .second)) (a .choice) (a .y) _ (t .tested .ensures .0) _ (e .enum-told .given .1)
-    (λ i. cond (sym (ne-eqb (a .choice) 0 other) i) (now (a .first)) (now (a .second)))
+    fine-row (lent (a .first)) (lent (a .second)) (a .choice) (a .y) _ (t .tested .ensures .0) _ (e .enum-told .given .1)
+    (λ i. cond (sym (ne-eqb (a .choice) 0 other) i) (lent (a .first)) (lent (a .second)))
 
 returns-3 : tie.Need-returns-3
 returns-3 c =
     let e = c .before in
     let t = e .before .before in
     let a = t .before .before .before .args in
-    no-row (now (a .first)) (now (a .second)) (a .choice) (a .y) _ (t .tested .ensures .0) (e .enum-told2 .given .1)
+    no-row (lent (a .first)) (lent (a .second)) (a .choice) (a .y) _ (t .tested .ensures .0) (e .enum-told2 .given .1)
 
 pub picture-row-spec : {M : Type 1} → statement M
 picture-row-spec =

@@ -9,7 +9,6 @@ use Rattle.layers.proofs.Numbers.{sound, is-four}
 use borrow.Author.Needs.{needs}
 use Rattle.layers.proofs.inner.candidates.Statement.{statement}
 use Rattle.layers.proofs.inner.candidates.Tie as tie
-use Rattle.sprites.proofs.inner.candidates.Reads as inner-candidates-reads′
 
 candidates-requires : tie.Need-candidates-requires
 candidates-requires c κs =
