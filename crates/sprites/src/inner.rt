@@ -27,8 +27,8 @@ ghost use Rattle.sprites.specs.Sprites.{Sound, rowTests, viewOf, spriteP
 // The sprites' bit of tm, ts, tmw and tsw.
 const OBJ: usize = 4;
 
-// The tests of a row: its number and the lengths of the memories; then, where `column` says that the
-// column is out of its range, the last.
+// The tests of a row: its number and the lengths of the three memories; and last that the column is
+// in its range, which `column` says.
 pub fn tested(y: usize, words: usize, colours: usize, bytes: usize, column: bool) -> Verdict
     ensures { λ r. ⌜ (verdictMeans r ≡ rowTests y words colours bytes column) × (Passed r → Sound colours bytes y × (column ≡ true)) ⌝ }
 {
