@@ -1,9 +1,8 @@
-// What the public calls of this crate stand on: selects and tests, no branches on what a pixel holds.
+// What the public calls of this crate stand on.
 use line::Layer;
 use line::LinePixel;
 use registers::inner::bit;
 ghost use mathlib.Core.Path.{_≡_};
-ghost use mathlib.Core.Bool.{cond};
 ghost use Prim.Native.Nat.{_<_};
 ghost use Rattle.blend.specs.Blend.{region, byWindow, mathBit, markNeeded, isBackdrop, enabled};
 
@@ -75,10 +74,4 @@ pub fn layer_enabled(layers: u8, p: LinePixel) -> bool
     let on = bit(layers, math_bit(layer));
     let needed = mark_needed(layer);
     on & (p.obj_math | !needed)
-}
-
-pub fn pick(on: bool, a: u16, b: u16) -> u16
-    ensures { λ c. ⌜ c ≡ cond on a b ⌝ }
-{
-    if on { a } else { b }
 }

@@ -4,6 +4,7 @@ pub mod inner;
 
 use colour::color_math;
 use line::LinePixel;
+use line::inner::pick_color;
 use registers::PPURegisters;
 use registers::inner::bit;
 ghost use mathlib.Core.Path.{_≡_};
@@ -47,11 +48,11 @@ pub fn color(s: ColorMath, main: LinePixel, sub: LinePixel, inside: bool) -> u16
 {
     let under = sub.layer;
     let keep_main = inner::region(s.clip_mode, inside);
-    let main_color = inner::pick(keep_main, main.color, 0);
+    let main_color = pick_color(keep_main, main.color, 0);
     let clear = inner::is_backdrop(under);
-    let operand = inner::pick(s.use_subscreen & !clear, sub.color, s.fixed);
+    let operand = pick_color(s.use_subscreen & !clear, sub.color, s.fixed);
     let half = s.half & (keep_main & !(s.use_subscreen & clear));
     let mixed = color_math(main_color, operand, s.subtract, half);
     let on = inner::region(s.math_region, inside) & inner::layer_enabled(s.layers, main);
-    inner::pick(on, mixed, main_color)
+    pick_color(on, mixed, main_color)
 }

@@ -2,12 +2,12 @@
 // registers are read once, and the colour window is made only where a region asks for it.
 use blend::ColorMath;
 use blend::inner::by_window;
-use blend::inner::pick;
 use blend::inner::region;
 use colour::inner::lighten;
 use laying::inner::mask;
 use line::LinePixel;
 use line::Lines;
+use line::inner::pick_color;
 use registers::PPURegisters;
 use registers::constants::SCREEN_WIDTH;
 use windows::inner::color_window;
@@ -40,7 +40,7 @@ fn keep(line: [LinePixel; 256], clip_mode: u8, inside: [bool; 256]) -> [u16; 256
     let mut out = [0; 256];
     for x in 0..256 {
         let p = line[x];
-        out[x] = pick(region(clip_mode, inside[x]), p.color, 0);
+        out[x] = pick_color(region(clip_mode, inside[x]), p.color, 0);
     }
     out
 }

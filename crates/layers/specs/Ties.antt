@@ -28,9 +28,8 @@ use Rattle.sprite_tile.specs.declared.View.{View}
 use Rattle.sprite_tile.specs.Tile.{pixelIn}
 use Rattle.sprite_fetch.specs.Fetch.{Tile, among, across, fetchedOf, fetchedPixel, linePixel, over}
 use Rattle.sprites.specs.Sprites as sprites
-use Rattle.modes.specs.declared.BgMode.{BgMode}
 use Rattle.modes.specs.Modes.{lacks, modeRows, bgModeOf, paramsOf}
-use Rattle.modes.specs.Ties.{prioritiesOf, spritePriorities, layerPriorities, four-rows, no-shared-priority}
+use Rattle.modes.specs.Ties.{priorities, prioritiesOf, spritePriorities, layerPriorities, four-rows, no-shared-priority}
 use Rattle.layers.specs.Layers.{Scene, bgShown, bgAt, spriteAt, layerShown, layerPixel}
 use Rattle.layers.specs.Numbers.{shown-low, pixel-low, pixel-four, pixel-none}
 
@@ -99,24 +98,22 @@ module _ (s : Scene) (y : ℕ) where
   mode = s .regs .bgmode
 
   -- the priorities of layer k
-  abbrev priorities : ℕ → List ℕ
-  priorities k = getD (layerPriorities (modeRows mode)) k []
+  abbrev ownOf : ℕ → List ℕ
+  ownOf k = getD (layerPriorities (modeRows mode)) k []
 
   priorities-low : (k : ℕ) → k < 4 → bgModeOf mode k .present ≡ true →
-      bgModeOf mode k .low ∷ bgModeOf mode k .high ∷ [] ≡ priorities k
+      bgModeOf mode k .low ∷ bgModeOf mode k .high ∷ [] ≡ ownOf k
   unfolding bgModeOf
   priorities-low k h e =
-      let f : BgMode → List ℕ = λ m. prioritiesOf (m .present) (m .low) (m .high) in
       let rows = modeRows mode in
       let m = getD rows k lacks in
-      let long : k < length (map f rows) = rw (length-map, four-rows mode) h in
-      (λ i. prioritiesOf (sym e i) (m .low) (m .high))
-      ∙ sym (List·getD-append (map f rows) (spritePriorities ∷ []) [] k long ∙ getD-map f rows k lacks)
+      let long : k < length (map prioritiesOf rows) = rw (length-map, four-rows mode) h in
+      (λ i. priorities (sym e i) (m .low) (m .high))
+      ∙ sym (List·getD-append (map prioritiesOf rows) (spritePriorities ∷ []) [] k long ∙ getD-map prioritiesOf rows k lacks)
 
-  priorities-four : (k : ℕ) → k ≡ 4 → spritePriorities ≡ priorities k
+  priorities-four : (k : ℕ) → k ≡ 4 → spritePriorities ≡ ownOf k
   priorities-four k e =
-      let f : BgMode → List ℕ = λ m. prioritiesOf (m .present) (m .low) (m .high) in
-      sym (getD-at (map f (modeRows mode)) spritePriorities [] [] k (rw length-map (four-rows mode ∙ sym e)))
+      sym (getD-at (map prioritiesOf (modeRows mode)) spritePriorities [] [] k (rw length-map (four-rows mode ∙ sym e)))
 
   -- a background's pixel has a priority of its own
   own-pixel : (k x : ℕ) →
@@ -133,7 +130,7 @@ module _ (s : Scene) (y : ℕ) where
     candidate x k = onScreen (on (layerShown s k) x) (layerPixel s y k x)
 
     abbrev Own : ℕ → Candidate → Type 0
-    Own k c = c .opaque ≡ true → holds (priorities k) (c .pixel .z .0) ≡ true
+    Own k c = c .opaque ≡ true → holds (ownOf k) (c .pixel .z .0) ≡ true
 
     own-low : (k x : ℕ) → k < 4 →
         Own k (onScreen (on (bgShown s k) x) (bgAt s y k x))
@@ -170,7 +167,7 @@ module _ (s : Scene) (y : ℕ) where
     no-ties : (x : ℕ) → NoTies (candidate x)
     no-ties x j k o n e =
         one-place (layerPriorities (modeRows mode)) (nearness (candidate x) k) j k (no-shared-priority mode)
-        ((λ i. holds (priorities j) (sym e i)) ∙ own x j o) (own x k n)
+        ((λ i. holds (ownOf j) (sym e i)) ∙ own x j o) (own x k n)
 
     -- and only the five layers have candidates
     below : (x k : ℕ) → Has (candidate x) k → k < 5

@@ -9,6 +9,11 @@ use Rattle.line.specs.declared.Candidate.{Candidate}
 use Rattle.line.specs.declared.Lines.{Lines}
 use Rattle.line.specs.Pixels.{backdropOf, none, deposited}
 
+-- of two changed things the one that a test names
+pub one-changed : {A B : Type 0} (g : A → B) (t : Bool) (a b : A) → cond t (g a) (g b) ≡ g (cond t a b)
+one-changed g true a b = refl
+one-changed g false a b = refl
+
 module _ (f : ℕ → ℕ) where
   -- the pixel in another colour
   abbrev pub recolour : LinePixel → LinePixel
@@ -22,19 +27,9 @@ module _ (f : ℕ → ℕ) where
   abbrev pub recolouredLines : Lines → Lines
   recolouredLines lines = record { main = map recolour (lines .main); sub = map recolour (lines .sub) }
 
-  -- of two pixels the one that a test names, recoloured
-  one-pixel : (t : Bool) (p q : LinePixel) → cond t (recolour p) (recolour q) ≡ recolour (cond t p q)
-  one-pixel true p q = refl
-  one-pixel false p q = refl
-
-  -- and of two candidates
-  pub one-recoloured : (t : Bool) (c d : Candidate) → cond t (recoloured c) (recoloured d) ≡ recoloured (cond t c d)
-  one-recoloured true c d = refl
-  one-recoloured false c d = refl
-
   -- a deposit of recoloured pixels is recoloured
   pub deposited-recoloured : (held : LinePixel) (c : Candidate) → deposited (recolour held) (recoloured c) ≡ recolour (deposited held c)
-  deposited-recoloured held c = one-pixel (c .opaque && leb (held .z .0) (c .pixel .z .0)) (c .pixel) held
+  deposited-recoloured held c = one-changed recolour (c .opaque && leb (held .z .0) (c .pixel .z .0)) (c .pixel) held
 
   -- where the rule keeps colour 0, no candidate stays none
   pub none-recoloured : f 0 ≡ 0 → none ≡ recoloured none
@@ -42,4 +37,4 @@ module _ (f : ℕ → ℕ) where
 
   -- so what is there under a test, or none
   pub there-recoloured : f 0 ≡ 0 → (t : Bool) (c : Candidate) → cond t (recoloured c) none ≡ recoloured (cond t c none)
-  there-recoloured e t c = (λ i. cond t (recoloured c) (none-recoloured e i)) ∙ one-recoloured t c none
+  there-recoloured e t c = (λ i. cond t (recoloured c) (none-recoloured e i)) ∙ one-changed recoloured t c none

@@ -35,7 +35,8 @@ pub fn bg_index(layer: Layer) -> usize
     }
 }
 
-fn pick_color(on: bool, a: u16, b: u16) -> u16
+// Of two colours the first, where `on` says so, and otherwise the second.
+pub fn pick_color(on: bool, a: u16, b: u16) -> u16
     ensures { λ r. ⌜ r ≡ cond on a b ⌝ }
 {
     if on { a } else { b }

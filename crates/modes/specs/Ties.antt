@@ -12,16 +12,19 @@ use Rattle.modes.specs.declared.BgMode.{BgMode}
 use Rattle.modes.specs.Modes.{mode0, mode1, mode3, modeRows}
 
 -- the priorities of a background, and of the sprites
-abbrev pub prioritiesOf : Bool → ℕ → ℕ → List ℕ
-prioritiesOf true low high = low ∷ high ∷ []
-prioritiesOf false low high = []
+abbrev pub priorities : Bool → ℕ → ℕ → List ℕ
+priorities true low high = low ∷ high ∷ []
+priorities false low high = []
+
+abbrev pub prioritiesOf : BgMode → List ℕ
+prioritiesOf m = priorities (m .present) (m .low) (m .high)
 
 abbrev pub spritePriorities : List ℕ
 spritePriorities = 3 ∷ 6 ∷ 9 ∷ 12 ∷ []
 
 -- those of the five layers of a mode, by their numbers
 abbrev pub layerPriorities : List BgMode → List (List ℕ)
-layerPriorities rows = map (λ (m : BgMode). prioritiesOf (m .present) (m .low) (m .high)) rows ++ (spritePriorities ∷ [])
+layerPriorities rows = map prioritiesOf rows ++ (spritePriorities ∷ [])
 
 -- the table of modes, mode 1 without bgmode bit 3 and with it
 abbrev pub modeTable : List (List BgMode)

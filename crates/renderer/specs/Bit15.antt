@@ -12,7 +12,7 @@ use Rattle.windows.specs.Windows.{windowOf}
 use Rattle.colour.specs.Colour.{directColour}
 use Rattle.colour.specs.Bit15.{SameColour, direct-clear}
 use Rattle.line.specs.Pixels.{none, backdropLine}
-use Rattle.line.specs.Recoloured.{recoloured, recolouredLines, one-recoloured, there-recoloured}
+use Rattle.line.specs.Recoloured.{recoloured, recolouredLines, one-changed, there-recoloured}
 use Rattle.laying.specs.Order.{layAll}
 use Rattle.laying.specs.Recoloured.{backdrop-recoloured, laid-recoloured}
 use Rattle.modes.specs.Modes.{paramsOf}
@@ -73,7 +73,7 @@ module _ (s : Scene) where
   pixel-plain y k x =
       (λ i. cond (ltb k 4) (bg-plain y k x i) (cond (eqb k 4) (sprite-plain y x i) none))
       ∙ ((λ i. cond (ltb k 4) (recoloured low15 (bgAt s y k x)) (there-recoloured low15 refl (eqb k 4) (spriteAt s y x) i))
-      ∙ one-recoloured low15 (ltb k 4) (bgAt s y k x) (cond (eqb k 4) (spriteAt s y x) none))
+      ∙ one-changed (recoloured low15) (ltb k 4) (bgAt s y k x) (cond (eqb k 4) (spriteAt s y x) none))
 
   -- so are the lines before any layer is laid
   start-plain : startLines (plain s) ≡ recolouredLines low15 (startLines s)

@@ -12,7 +12,7 @@ use Rattle.sprite_row.specs.SpriteRow.{sizeIn}
 use Rattle.line.specs.declared.Layer.the-variants.{Obj}
 use Rattle.line.specs.declared.Priority.{Priority}
 use Rattle.line.specs.Pixels.{none, spritePriority}
-use Rattle.line.specs.Recoloured.{recoloured, one-recoloured, none-recoloured, there-recoloured}
+use Rattle.line.specs.Recoloured.{recoloured, one-changed, none-recoloured, there-recoloured}
 use Rattle.sprite_tile.specs.declared.View.{View}
 use Rattle.sprite_tile.specs.Tile.{lineIn, indexAt, coloursOf, pixelOf, pixelIn}
 use Rattle.sprite_fetch.specs.Fetch.{Tile, among, across, over, fetchedOf, fetchedPixel, linePixel}
@@ -55,4 +55,4 @@ module _ (f : ℕ → ℕ) (black : f 0 ≡ 0) (v g : List ℕ) (view : View) wh
       let tiles = fetchedOf limit (view .objsel) s later in
       let c = fetchedPixel v g view s tiles x in
       (λ i. over (fetched-recoloured s tiles x i) (sprites-recoloured limit later x i))
-      ∙ one-recoloured f (c .opaque) c (linePixel v g view limit later x)
+      ∙ one-changed (recoloured f) (c .opaque) c (linePixel v g view limit later x)

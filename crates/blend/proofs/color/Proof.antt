@@ -18,13 +18,13 @@ returns c =
     let t = k .before in
     let a = t .before .args in
     let s = a .s in
-    let kept = k .pick .ensures ∙ (λ i. cond (t .region .ensures i) (a .main .color) 0) in
+    let kept = k .pick-color .ensures ∙ (λ i. cond (t .region .ensures i) (a .main .color) 0) in
     let operand =
-    o .pick2 .ensures ∙ (λ i. cond (s .«use_subscreen» && not (b .is-backdrop .ensures i)) (a .sub .color) (s .fixed)) in
+    o .pick-color2 .ensures ∙ (λ i. cond (s .«use_subscreen» && not (b .is-backdrop .ensures i)) (a .sub .color) (s .fixed)) in
     let mixed =
     m .color-math .ensures
     ∙ (λ i. mathOf (kept i) (operand i) (s .subtract) (s .half && (t .region .ensures i && not (s .«use_subscreen» && b .is-backdrop .ensures i)))) in
-    c .pick3 .ensures ∙ (λ i. cond (g .region2 .ensures i && e .layer-enabled .ensures i) (mixed i) (kept i))
+    c .pick-color3 .ensures ∙ (λ i. cond (g .region2 .ensures i && e .layer-enabled .ensures i) (mixed i) (kept i))
 
 pub color-spec : {M : Type 1} → statement M
 color-spec =

@@ -24,7 +24,7 @@ loop-again c =
     let g = c .before in
     let l = g .before .before in
     let p = getD (l .before .before .args .t1) (l .before .loop .x) noPixel in
-    front-more (l .before .loop .inv) (l .loop-test .taken) _ (c .pick .ensures ∙ (λ i. cond (g .region .ensures i) (p .color) 0))
+    front-more (l .before .loop .inv) (l .loop-test .taken) _ (c .pick-color .ensures ∙ (λ i. cond (g .region .ensures i) (p .color) 0))
 
 returns : tie.Need-returns Inv-loop μ-loop
 returns c = front-all (c .before .loop .inv) (c .loop-test .left)
