@@ -1,4 +1,4 @@
--- A scene, and its layers by their numbers: BG1 to BG4 are 0 to 3, the sprites 4.
+-- The layers of a scene by their numbers: BG1 to BG4 are 0 to 3, the sprites 4.
 use Prim.Native.Nat.{ℕ}
 use mathlib.Core.Bool.{Bool, true, cond, _&&_}
 use mathlib.Core.List.{List}
@@ -6,6 +6,7 @@ use lib.ListN.{length, getD}
 use lib.Dec.{ltb, leb, eqb}
 use Rattle.refusal.specs.Answer.{Answer, value, provided, _andThen_, Outcome, outcome}
 use Rattle.registers.specs.declared.PPURegisters.{PPURegisters}
+pub use Rattle.registers.specs.Scene.{Scene, scene}
 use Rattle.line.specs.declared.Candidate.{Candidate}
 use Rattle.line.specs.declared.Lines.{Lines}
 use Rattle.line.specs.Pixels.{none, backdropLines}
@@ -16,16 +17,6 @@ use Rattle.modes.specs.Modes.{paramsOf}
 use Rattle.bg_row.specs.Row.{bgPixel}
 use Rattle.background.specs.Background as background
 use Rattle.sprites.specs.Sprites as sprites
-
--- what a row is drawn from: the registers and the three memories
-pub record Scene : Type 0 where
-  pub regs : PPURegisters
-  pub vram : List ℕ
-  pub cgram : List ℕ
-  pub oam : List ℕ
-
-abbrev pub scene : PPURegisters → List ℕ → List ℕ → List ℕ → Scene
-scene r v g o = record { regs = r; vram = v; cgram = g; oam = o }
 
 module _ (s : Scene) where
   -- where background k is shown, and its pixel at column x of row y

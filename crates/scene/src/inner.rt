@@ -1,0 +1,218 @@
+// What the reader stands on, and what a program reads a scene by that does not hold it whole: the
+// tests of a count, of a body's length, of what follows the last section and of the two values.
+use crate::SCENE_BYTES;
+use oam::OAM_SIZE;
+use refusal::Refusal;
+use refusal::Verdict;
+use registers::PPURegisters;
+use registers::constants::LARGEST_COUNTER;
+ghost use mathlib.Core.Path.{_≡_};
+ghost use Prim.Native.Nat.{_+_, _*_, _≤_};
+ghost use lib.ListN.{length};
+ghost use Rattle.refusal.specs.Verdicts.{verdictMeans, Passed};
+ghost use Rattle.scene.specs.File.{wordAt, countAt, sectionTests, endTests, valueTests, sceneTests, registersOf, wordsOf};
+ghost use Rattle.scene.specs.Pieces.{countTests, bodyTests, fromSprites, fromColours, fromVram, fromEnd};
+
+// The bytes of the sections' bodies.
+pub const REGISTER_BYTES: usize = 48;
+
+pub const COLOUR_BYTES: usize = 512;
+
+pub const VRAM_BYTES: usize = 65536;
+
+// A word of two bytes, the low one first.
+fn word(low: u8, high: u8) -> u16
+    ensures { λ r. ⌜ r ≡ low + high * 256 ⌝ }
+{
+    low as u16 + high as u16 * 256
+}
+
+// The word from byte k on.
+fn word_at(bytes: &[u8], k: usize) -> u16
+    requires { ⌜ k + 2 ≤ length (now bytes) ⌝ }
+    ensures { λ r. ⌜ r ≡ wordAt (now (bytes .entry)) k ⌝ }
+{
+    word(bytes[k], bytes[k + 1])
+}
+
+// The count whose four bytes begin at byte k.
+fn count_at(bytes: &[u8], k: usize) -> usize
+    requires { ⌜ k + 4 ≤ length (now bytes) ⌝ }
+    ensures { λ r. ⌜ r ≡ countAt (now (bytes .entry)) k ⌝ }
+{
+    word_at(bytes, k) as usize + word_at(bytes, k + 2) as usize * 65536
+}
+
+// What is said of a section of n bytes by what was read of its count.
+pub fn count_tested(count: &[u8], n: usize) -> Verdict
+    ensures { λ v. ⌜ verdictMeans v ≡ countTests n (now (count .entry)) ⌝ }
+{
+    if count.len() < 4 {
+        return Verdict::Refused(Refusal::SceneCut);
+    }
+    if count_at(count, 0) != n {
+        return Verdict::Refused(Refusal::SectionCount);
+    }
+    Verdict::Fine
+}
+
+// And by how many bytes of its body there were.
+pub fn body_tested(got: usize, n: usize) -> Verdict
+    ensures { λ v. ⌜ verdictMeans v ≡ bodyTests n got ⌝ }
+{
+    if got < n {
+        return Verdict::Refused(Refusal::SceneCut);
+    }
+    Verdict::Fine
+}
+
+// What is said of n bytes after the last section.
+pub fn end_tested(n: usize) -> Verdict
+    ensures { λ v. ⌜ verdictMeans v ≡ endTests n ⌝ }
+{
+    if n == 0 {
+        return Verdict::Fine;
+    }
+    Verdict::Refused(Refusal::SceneLonger)
+}
+
+// What is said of the counter's byte and of the field's.
+pub fn values_tested(counter: u8, field: u8) -> Verdict
+    ensures { λ v. ⌜ (verdictMeans v ≡ valueTests counter field) × (Passed v → counter ≤ 16) ⌝ }
+{
+    if counter > LARGEST_COUNTER {
+        return Verdict::Refused(Refusal::Counter);
+    }
+    if field > 1 {
+        return Verdict::Refused(Refusal::FieldByte);
+    }
+    Verdict::Fine
+}
+
+// The tests of a section of n bytes whose count begins at byte k.
+fn section(scene: &[u8], k: usize, n: usize) -> Verdict
+    requires { ⌜ (k ≤ 1116) × (n ≤ 65536) ⌝ }
+    ensures { λ v. ⌜ (verdictMeans v ≡ sectionTests (now (scene .entry)) k n) × (Passed v → k + 4 + n ≤ length (now (scene .entry))) ⌝ }
+{
+    if scene.len() < k + 4 {
+        return Verdict::Refused(Refusal::SceneCut);
+    }
+    if count_at(scene, k) != n {
+        return Verdict::Refused(Refusal::SectionCount);
+    }
+    if scene.len() < k + 4 + n {
+        return Verdict::Refused(Refusal::SceneCut);
+    }
+    Verdict::Fine
+}
+
+// The tests from the last section's end on.
+fn from_end(scene: &[u8]) -> Verdict
+    requires { ⌜ 66656 ≤ length (now scene) ⌝ }
+    ensures { λ v. ⌜ verdictMeans v ≡ fromEnd (now (scene .entry)) ⌝ }
+{
+    match end_tested(scene.len() - SCENE_BYTES) {
+        Verdict::Fine => values_tested(scene[50], scene[51]),
+        Verdict::Refused(n) => Verdict::Refused(n),
+    }
+}
+
+// The tests from VRAM's section on.
+fn from_vram(scene: &[u8]) -> Verdict
+    ensures { λ v. ⌜ (verdictMeans v ≡ fromVram (now (scene .entry))) × (Passed v → 66656 ≤ length (now (scene .entry))) ⌝ }
+{
+    match section(scene, 1116, VRAM_BYTES) {
+        Verdict::Fine => from_end(scene),
+        Verdict::Refused(n) => Verdict::Refused(n),
+    }
+}
+
+// From colour memory's.
+fn from_colours(scene: &[u8]) -> Verdict
+    ensures { λ v. ⌜ (verdictMeans v ≡ fromColours (now (scene .entry))) × (Passed v → 66656 ≤ length (now (scene .entry))) ⌝ }
+{
+    match section(scene, 600, COLOUR_BYTES) {
+        Verdict::Fine => from_vram(scene),
+        Verdict::Refused(n) => Verdict::Refused(n),
+    }
+}
+
+// From sprite memory's.
+fn from_sprites(scene: &[u8]) -> Verdict
+    ensures { λ v. ⌜ (verdictMeans v ≡ fromSprites (now (scene .entry))) × (Passed v → 66656 ≤ length (now (scene .entry))) ⌝ }
+{
+    match section(scene, 52, OAM_SIZE) {
+        Verdict::Fine => from_colours(scene),
+        Verdict::Refused(n) => Verdict::Refused(n),
+    }
+}
+
+// All tests of a scene.
+pub fn scene_tested(scene: &[u8]) -> Verdict
+    ensures { λ v. ⌜ (verdictMeans v ≡ sceneTests (now (scene .entry))) × (Passed v → 66656 ≤ length (now (scene .entry))) ⌝ }
+{
+    match section(scene, 0, REGISTER_BYTES) {
+        Verdict::Fine => from_sprites(scene),
+        Verdict::Refused(n) => Verdict::Refused(n),
+    }
+}
+
+// The registers, of the 48 bytes of their section.
+pub fn registers(b: &[u8]) -> PPURegisters
+    requires { ⌜ length (now b) ≡ 48 ⌝ }
+    ensures { λ r. ⌜ r ≡ registersOf (now (b .entry)) ⌝ }
+{
+    PPURegisters {
+        inidisp: b[0],
+        objsel: b[1],
+        oamadd: word_at(b, 2),
+        bgmode: b[4],
+        mosaic: b[5],
+        bgsc: [b[6], b[7], b[8], b[9]],
+        bg12nba: b[10],
+        bg34nba: b[11],
+        bg1hofs: word_at(b, 12),
+        bghofs: [word_at(b, 14), word_at(b, 16), word_at(b, 18)],
+        bg1vofs: word_at(b, 20),
+        bgvofs: [word_at(b, 22), word_at(b, 24), word_at(b, 26)],
+        w12sel: b[28],
+        w34sel: b[29],
+        wobjsel: b[30],
+        wh0: b[31],
+        wh1: b[32],
+        wh2: b[33],
+        wh3: b[34],
+        wbglog: b[35],
+        wobjlog: b[36],
+        tm: b[37],
+        ts: b[38],
+        tmw: b[39],
+        tsw: b[40],
+        cgwsel: b[41],
+        cgadsub: b[42],
+        coldata: word_at(b, 43),
+        setini: b[45],
+        mosaic_vcounter: b[46],
+        field: b[47] == 1,
+    }
+}
+
+// Fills a memory with the words of its section.
+pub fn words(out: &mut [u16], b: &[u8])
+    requires { ⌜ length (now b) ≡ length (now out) * 2 ⌝ }
+    ensures { λ u. ⌜ now (out .exit) ≡ wordsOf (length (now (out .entry))) (now (b .entry)) ⌝ }
+{
+    for i in 0..out.len() {
+        out[i] = word_at(b, i * 2);
+    }
+}
+
+// Fills sprite memory with the bytes of its section.
+pub fn copy(out: &mut [u8], b: &[u8])
+    requires { ⌜ length (now b) ≡ length (now out) ⌝ }
+    ensures { λ u. ⌜ now (out .exit) ≡ now (b .entry) ⌝ }
+{
+    for i in 0..out.len() {
+        out[i] = b[i];
+    }
+}

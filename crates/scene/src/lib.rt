@@ -1,0 +1,68 @@
+// The scene file: sections in a fixed order, each after its count. The reader takes it as one lent
+// slice and writes its targets only when all of it is accepted.
+pub mod inner;
+
+use inner::scene_tested;
+use oam::OAM_SIZE;
+use refusal::Refusal;
+use refusal::Verdict;
+use registers::PPURegisters;
+use registers::constants::COLOUR_WORDS;
+use tiles::inner::VRAM_WORDS;
+ghost use mathlib.Core.Path.{_≡_};
+ghost use Prim.Native.Nat.{_≤_};
+ghost use lib.ListN.{length};
+ghost use Rattle.refusal.specs.Answer.{_andThen_};
+ghost use Rattle.refusal.specs.Verdicts.{verdictMeans, Passed};
+ghost use Rattle.scene.specs.File.{targetTests, sceneTests, readOutcome};
+ghost use Rattle.scene.specs.Answers.{sceneMeans};
+
+// The bytes of a scene file.
+pub const SCENE_BYTES: usize = 66656;
+
+// The verdict on a scene, and its registers; on a refusal they are cleared ones.
+pub struct SceneAnswer {
+    pub verdict: Verdict,
+    pub registers: PPURegisters,
+}
+
+// The tests of the targets' lengths, and then of the scene.
+fn tested(words: usize, colours: usize, bytes: usize, scene: &[u8]) -> Verdict
+    ensures { λ v. ⌜ (verdictMeans v ≡ targetTests words colours bytes andThen sceneTests (now (scene .entry))) × (Passed v → ((words ≡ 32768) × ((colours ≡ 256) × (bytes ≡ 544))) × (66656 ≤ length (now (scene .entry)))) ⌝ }
+{
+    if words != VRAM_WORDS {
+        return Verdict::Refused(Refusal::Vram);
+    }
+    if colours != COLOUR_WORDS {
+        return Verdict::Refused(Refusal::Colour);
+    }
+    if bytes != OAM_SIZE {
+        return Verdict::Refused(Refusal::Oam);
+    }
+    scene_tested(scene)
+}
+
+// Reads a scene into the lent targets.
+pub fn read_scene(vram: &mut [u16], cgram: &mut [u16], oam: &mut [u8], scene: &[u8]) -> SceneAnswer
+    ensures { λ a. ⌜ sceneMeans a (now (vram .exit)) (now (cgram .exit)) (now (oam .exit)) ≡ readOutcome (now (scene .entry)) (now (vram .entry)) (now (cgram .entry)) (now (oam .entry)) ⌝ }
+{
+    match tested(vram.len(), cgram.len(), oam.len(), scene) {
+        Verdict::Fine => {
+            inner::words(vram, &scene[1120..66656]);
+            inner::words(cgram, &scene[604..1116]);
+            inner::copy(oam, &scene[56..600]);
+            let registers = inner::registers(&scene[4..52]);
+            SceneAnswer {
+                verdict: Verdict::Fine,
+                registers,
+            }
+        }
+        Verdict::Refused(n) => {
+            let registers = PPURegisters::new();
+            SceneAnswer {
+                verdict: Verdict::Refused(n),
+                registers,
+            }
+        }
+    }
+}
