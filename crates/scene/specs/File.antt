@@ -26,11 +26,11 @@ sectionTests bytes k n =
     (provided (leb (k + 4 + n) (length bytes)) 9 (value tt)))
 
 -- bytes after the last section, n of them, are refused 10
-abbrev pub endTests : ℕ → Answer Unit
+unfoldable pub endTests : ℕ → Answer Unit
 endTests n = provided (eqb n 0) 10 (value tt)
 
 -- a counter above 16 is refused 6, and then a field byte above 1 11
-abbrev pub valueTests : ℕ → ℕ → Answer Unit
+unfoldable pub valueTests : ℕ → ℕ → Answer Unit
 valueTests counter field = provided (leb counter 16) 6 (provided (leb field 1) 11 (value tt))
 
 -- the sections in their order, and what comes after them

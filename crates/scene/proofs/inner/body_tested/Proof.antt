@@ -1,11 +1,14 @@
+use Rattle.scene.specs.Pieces.{bodyTests}
 use borrow.Author.Tests.{le-leb, lt-leb}
 use Rattle.scene.proofs.inner.body_tested.Statement.{statement}
 use Rattle.scene.proofs.inner.body_tested.Tie as tie
 
 returns : tie.Need-returns
+unfolding bodyTests
 returns c = simp (lt-leb _ _ (c .if1 .taken))
 
 returns-2 : tie.Need-returns-2
+unfolding bodyTests
 returns-2 c = simp (le-leb _ _ (c .if1 .left))
 
 pub body-tested-spec : {M : Type 1} → statement M

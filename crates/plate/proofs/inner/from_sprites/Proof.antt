@@ -1,0 +1,22 @@
+use Rattle.plate.proofs.Said.{said-refused}
+use borrow.Author.Needs.{needs}
+use Rattle.plate.proofs.inner.from_sprites.Statement.{statement}
+use Rattle.plate.proofs.inner.from_sprites.Tie as tie
+
+returns-2 : tie.Need-returns-2
+returns-2 c = let n = c .before in said-refused (n .k .given .1) (n .before .before .before .before .section .ensures)
+
+pub from-sprites-spec : {M : Type 1} → statement M
+from-sprites-spec =
+    tie.close
+    (tie.spec
+    (λ c κs. search needs)
+    (λ c. search needs)
+    (λ c κs. search needs)
+    (λ c. search needs)
+    (λ c. search needs)
+    (λ c. search needs)
+    (λ c. search needs)
+    (λ c. search needs)
+    (λ c. search needs)
+    returns-2)
