@@ -2,8 +2,8 @@
 // the lowest first, and then the scene. It writes a digest of what it drew.
 mod rows;
 
-use refusal::Refusal;
 use refusal::Verdict;
+use say::refuse;
 
 // How often; more than 65,535 counts as never.
 fn times(low: u8, high: u8, third: u8, fourth: u8) -> u16 {
@@ -14,13 +14,6 @@ fn times(low: u8, high: u8, third: u8, fourth: u8) -> u16 {
         return 0;
     }
     low as u16 + high as u16 * 256
-}
-
-// Writes a refusal's line.
-fn refuse(n: Refusal) {
-    io::write_all(1, b"refused ");
-    io::print_decimal(1, n.number() as u64);
-    io::write_all(1, b"\n");
 }
 
 // Writes a digest's line.
@@ -43,6 +36,8 @@ fn main() {
     let r = read.registers;
     match verdict {
         Verdict::Fine => say(rows::often(&vram, &cgram, &oam, r, n)),
-        Verdict::Refused(k) => refuse(k),
+        Verdict::Refused(k) => {
+            refuse(k);
+        }
     }
 }

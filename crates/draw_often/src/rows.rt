@@ -1,5 +1,7 @@
 // All rows of a scene into one lent row, and a digest of them.
 use digest::fold;
+use plate::inner::at_counter;
+use plate::inner::next_counter;
 use refusal::Verdict;
 use registers::PPURegisters;
 
@@ -34,21 +36,6 @@ fn with_all(row: &[u8], digest: u32) -> u32 {
     d
 }
 
-// The registers with another counter.
-fn at_counter(registers: PPURegisters, counter: u8) -> PPURegisters {
-    let mut r = registers;
-    r.mosaic_vcounter = counter;
-    r
-}
-
-// The mosaic counter after a row.
-fn stepped(mosaic: u8, counter: u8) -> u8 {
-    if counter < 2 {
-        return mosaic / 16 + 1;
-    }
-    counter - 1
-}
-
 // Draws the rows, and folds one byte of each into the digest.
 fn once(
     row: &mut [u8],
@@ -65,7 +52,7 @@ fn once(
         let now = at_counter(r, counter);
         settle(renderer::render_scanline(row, vram, cgram, oam, now, y));
         d = with_one(row, d, at);
-        counter = stepped(r.mosaic, counter);
+        counter = next_counter(r, counter);
     }
     d
 }
@@ -85,7 +72,7 @@ fn whole(
         let now = at_counter(r, counter);
         settle(renderer::render_scanline(row, vram, cgram, oam, now, y));
         d = with_all(row, d);
-        counter = stepped(r.mosaic, counter);
+        counter = next_counter(r, counter);
     }
     d
 }
