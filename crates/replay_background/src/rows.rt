@@ -235,8 +235,8 @@ fn forty(vram: &[u16], cgram: &[u16], filling: u16, seed: u32) -> u32 {
     x
 }
 
-pub(crate) fn scenes(vram: &mut [u16], cgram: &mut [u16]) {
-    let mut x: u32 = 40;
+pub(crate) fn scenes(vram: &mut [u16], cgram: &mut [u16], seed: u32) {
+    let mut x = seed;
     for filling in 0..4u16 {
         x = memory::fill(vram, cgram, x);
         x = forty(vram, cgram, filling, x);

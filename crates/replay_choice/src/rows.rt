@@ -142,10 +142,10 @@ fn one_scene(oam: &mut [u8], n: u16, seed: u32) -> u32
     other_rows(oam, (n % 2) as usize, objsel, interlace, d)
 }
 
-pub(crate) fn scenes(oam: &mut [u8])
+pub(crate) fn scenes(oam: &mut [u8], seed: u32)
     requires { ⌜ length (now oam) ≡ 544 ⌝ }
 {
-    let mut x: u32 = 20;
+    let mut x = seed;
     for n in 0..48u16 {
         x = one_scene(oam, n, x);
     }
@@ -177,10 +177,10 @@ fn row_of(n: u16, drawn: u16) -> u16
     }
 }
 
-pub(crate) fn piles(oam: &mut [u8])
+pub(crate) fn piles(oam: &mut [u8], seed: u32)
     requires { ⌜ length (now oam) ≡ 544 ⌝ }
 {
-    let mut x: u32 = 21;
+    let mut x = seed;
     for n in 0..24u16 {
         let a = next(x);
         let b = next(a);
@@ -207,10 +207,10 @@ fn drawn_rows(oam: &[u8], objsel: u8, interlace: bool, seed: u32) -> u32 {
 }
 
 // Every objsel over one scene, interlace off and on.
-pub(crate) fn settings(oam: &mut [u8])
+pub(crate) fn settings(oam: &mut [u8], seed: u32)
     requires { ⌜ length (now oam) ≡ 544 ⌝ }
 {
-    let mut x = scene::fill(oam, 0, 0, 22);
+    let mut x = scene::fill(oam, 0, 0, seed);
     for n in 0..512u16 {
         x = drawn_rows(oam, (n / 2) as u8, n % 2 == 1, x);
     }

@@ -5,6 +5,7 @@ use generator::word;
 use oam_port::ByteAnswer;
 use oam_port::OamPort;
 use refusal::Verdict;
+use std::num::wrapping_add_u32;
 
 // Hexadecimal digits.
 fn digits(v: u64, n: usize) {
@@ -124,8 +125,11 @@ fn mixed_line(given: OamPort, oam: &mut [u8], seed: u32) -> Turn {
     Turn { port, x }
 }
 
-fn mixed(given: OamPort, oam: &mut [u8]) -> OamPort {
-    let mut turn = Turn { port: given, x: 30 };
+fn mixed(given: OamPort, oam: &mut [u8], seed: u32) -> OamPort {
+    let mut turn = Turn {
+        port: given,
+        x: seed,
+    };
     for _ in 0..128u32 {
         turn = mixed_line(turn.port, oam, turn.x);
     }
@@ -152,9 +156,9 @@ fn read_run(given: OamPort, oam: &[u8], bytes: u32) -> OamPort {
 }
 
 // From each edge, and from one byte further on.
-fn runs(given: OamPort, oam: &mut [u8]) -> OamPort {
+fn runs(given: OamPort, oam: &mut [u8], seed: u32) -> OamPort {
     let mut port = given;
-    let mut x: u32 = 31;
+    let mut x = seed;
     for n in 0..16u16 {
         let begun = start(port, oam, edge(n / 2), n % 2 == 1);
         let turn = write_run(begun, oam, x);
@@ -191,9 +195,9 @@ fn apart(port: OamPort, oam: &mut [u8], p: Pair, more: bool) -> OamPort {
     read_run(at(stored, p.to), oam, 2)
 }
 
-fn latch(given: OamPort, oam: &mut [u8]) -> OamPort {
+fn latch(given: OamPort, oam: &mut [u8], seed: u32) -> OamPort {
     let mut port = given;
-    let mut x: u32 = 32;
+    let mut x = seed;
     for n in 0..64u32 {
         let a = next(x);
         let b = next(a);
@@ -220,14 +224,22 @@ fn whole(given: OamPort, oam: &[u8]) {
     }
 }
 
+// The list's seed: four bytes of the standard input, or the list's own.
+fn seed() -> u32 {
+    let mut bytes = [0u8; 4];
+    let n = io::read_full(0, &mut bytes);
+    generator::seed(&bytes[..n], 30)
+}
+
 fn main() {
+    let x = seed();
     let mut oam = [0u8; 544];
     io::write_all(1, b"mixed\n");
-    let a = mixed(OamPort::new(), &mut oam);
+    let a = mixed(OamPort::new(), &mut oam, x);
     io::write_all(1, b"runs\n");
-    let b = runs(a, &mut oam);
+    let b = runs(a, &mut oam, wrapping_add_u32(x, 1));
     io::write_all(1, b"latch\n");
-    let c = latch(b, &mut oam);
+    let c = latch(b, &mut oam, wrapping_add_u32(x, 2));
     io::write_all(1, b"whole\n");
     whole(c, &oam);
 }

@@ -6,10 +6,10 @@ use Rattle.replay_port.proofs.latch.Statement.{statement}
 use Rattle.replay_port.proofs.latch.Tie as tie
 
 abbrev Inv-loop : tie.InvT-loop
-Inv-loop oam₀ port₀ x₀ n₀ oam port x n = length oam ≡ length oam₀
+Inv-loop oam₀ seed port₀ x₀ n₀ oam port x n = length oam ≡ length oam₀
 
 abbrev μ-loop : tie.MeasureT-loop
-μ-loop oam₀ port₀ x₀ n₀ oam port x n = 64 - n
+μ-loop oam₀ seed port₀ x₀ n₀ oam port x n = 64 - n
 
 pub latch-spec : {M : Type 1} → statement M
 latch-spec =

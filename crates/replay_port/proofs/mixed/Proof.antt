@@ -6,10 +6,10 @@ use Rattle.replay_port.proofs.mixed.Statement.{statement}
 use Rattle.replay_port.proofs.mixed.Tie as tie
 
 abbrev Inv-loop : tie.InvT-loop
-Inv-loop oam₀ turn₀ counter₀ oam turn counter = length oam ≡ length oam₀
+Inv-loop oam₀ seed turn₀ counter₀ oam turn counter = length oam ≡ length oam₀
 
 abbrev μ-loop : tie.MeasureT-loop
-μ-loop oam₀ turn₀ counter₀ oam turn counter = 128 - counter
+μ-loop oam₀ seed turn₀ counter₀ oam turn counter = 128 - counter
 
 pub mixed-spec : {M : Type 1} → statement M
 mixed-spec =

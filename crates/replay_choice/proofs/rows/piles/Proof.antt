@@ -6,10 +6,10 @@ use Rattle.replay_choice.proofs.rows.piles.Statement.{statement}
 use Rattle.replay_choice.proofs.rows.piles.Tie as tie
 
 abbrev Inv-loop : tie.InvT-loop
-Inv-loop oam₀ x₀ n₀ oam x n = length oam ≡ length oam₀
+Inv-loop oam₀ seed x₀ n₀ oam x n = length oam ≡ length oam₀
 
 abbrev μ-loop : tie.MeasureT-loop
-μ-loop oam₀ x₀ n₀ oam x n = 24 - n
+μ-loop oam₀ seed x₀ n₀ oam x n = 24 - n
 
 pub piles-spec : {M : Type 1} → statement M
 piles-spec =

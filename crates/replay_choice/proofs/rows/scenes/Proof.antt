@@ -6,10 +6,10 @@ use Rattle.replay_choice.proofs.rows.scenes.Statement.{statement}
 use Rattle.replay_choice.proofs.rows.scenes.Tie as tie
 
 abbrev Inv-loop : tie.InvT-loop
-Inv-loop oam₀ x₀ n₀ oam x n = length oam ≡ length oam₀
+Inv-loop oam₀ seed x₀ n₀ oam x n = length oam ≡ length oam₀
 
 abbrev μ-loop : tie.MeasureT-loop
-μ-loop oam₀ x₀ n₀ oam x n = 48 - n
+μ-loop oam₀ seed x₀ n₀ oam x n = 48 - n
 
 pub scenes-spec : {M : Type 1} → statement M
 scenes-spec =

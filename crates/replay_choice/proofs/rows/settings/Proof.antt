@@ -4,10 +4,10 @@ use Rattle.replay_choice.proofs.rows.settings.Statement.{statement}
 use Rattle.replay_choice.proofs.rows.settings.Tie as tie
 
 abbrev Inv-loop : tie.InvT-loop
-Inv-loop oam x₀ n₀ x n = Unit {0}
+Inv-loop oam seed x₀ n₀ x n = Unit {0}
 
 abbrev μ-loop : tie.MeasureT-loop
-μ-loop oam x₀ n₀ x n = 512 - n
+μ-loop oam seed x₀ n₀ x n = 512 - n
 
 pub settings-spec : {M : Type 1} → statement M
 settings-spec =
