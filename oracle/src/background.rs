@@ -11,10 +11,11 @@ const SCENES: u32 = 160;
 /// The rows of a scene, and the columns that are asked in each.
 const ROWS: u32 = 4;
 const COLUMNS: u32 = 6;
+pub const SEED: u32 = 40;
 
-pub fn list() -> String {
+pub fn list(seed: u32) -> String {
     let mut screen = Screen::new();
-    let mut numbers = Generator::new(40);
+    let mut numbers = Generator::new(seed);
     let mut out = String::from("scenes\n");
     for n in 0..SCENES {
         if n % 40 == 0 {

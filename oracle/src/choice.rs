@@ -6,9 +6,10 @@ use rust_ppu::oam::{OAM, Sprite};
 
 /// The rows of a scene that are written out, and the sprites of a pile.
 const LINES: u32 = 48;
+pub const SEED: u32 = 20;
 
-pub fn list() -> String {
-    scenes() + &piles() + &settings()
+pub fn list(seed: u32) -> String {
+    scenes(seed) + &piles(seed.wrapping_add(1)) + &settings(seed.wrapping_add(2))
 }
 
 /// What the Rust chooses for a row.
@@ -125,9 +126,9 @@ fn fill(bytes: &mut Bytes, kind: u32, first: u16, numbers: &mut Generator) {
 /// Each kind at the eight settings of the size, interlace off and on: objsel and the first row; 48
 /// rows from there on, the flags kept but for a clear now and then; a digest of the even rows, or of
 /// the odd ones.
-fn scenes() -> String {
+fn scenes(seed: u32) -> String {
     let mut out = String::from("scenes\n");
-    let mut numbers = Generator::new(20);
+    let mut numbers = Generator::new(seed);
     let mut bytes = [0; 544];
     for n in 0..48 {
         let objsel = (n % 8 * 32) as u8 + numbers.below(32) as u8;
@@ -156,9 +157,9 @@ fn scenes() -> String {
 
 /// The eight settings of the size, interlace off and on, then off with small sprites alone: objsel
 /// and the row; then one sprite more at a time that meets the row, and the same lines as above.
-fn piles() -> String {
+fn piles(seed: u32) -> String {
     let mut out = String::from("piles\n");
-    let mut numbers = Generator::new(21);
+    let mut numbers = Generator::new(seed);
     for n in 0..24 {
         let objsel = (n % 8 * 32) as u8 + numbers.below(32) as u8;
         let drawn = numbers.below(224);
@@ -194,9 +195,9 @@ fn piles() -> String {
 }
 
 /// Every objsel over one memory of any columns and tops, interlace off and on: a digest of 4 rows.
-fn settings() -> String {
+fn settings(seed: u32) -> String {
     let mut out = String::from("settings digests\n");
-    let mut numbers = Generator::new(22);
+    let mut numbers = Generator::new(seed);
     let mut bytes = [0; 544];
     fill(&mut bytes, 0, 0, &mut numbers);
     let oam = loaded(&bytes);

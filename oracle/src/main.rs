@@ -1,44 +1,95 @@
-//! `oracle LIST` prints a list of what the Rust answers.
+//! `oracle LIST [SEED]` prints a list of what the Rust answers; the other commands draw scenes, and hold
+//! the programs to the Rust.
 
 mod background;
 mod choice;
 mod colour;
+mod compare;
+mod damage;
+mod frame;
 mod generator;
+mod kinds;
 mod oam;
 mod outside;
+mod pictured;
 mod port;
+mod program;
 mod registers;
 mod rows;
+mod scene;
 mod screen;
 mod sprites;
 mod tiles;
 
 use std::env;
-use std::io::{self, Write};
+use std::io::{self, Read, Write};
+use std::num::NonZero;
 use std::process::ExitCode;
 
-fn main() -> ExitCode {
-    let words: Vec<String> = env::args().skip(1).collect();
-    let list = match words.iter().map(String::as_str).collect::<Vec<_>>()[..] {
+const USAGE: &str = "usage: oracle colour | tiles | registers | oam | outside
+       oracle choice | port | background | sprites | rows [SEED]
+       oracle scene KIND SEED    a scene of a kind: uniform, sprites, windows, math, mosaic, direct,
+                                 interlace, blank, picture
+       oracle frame              what the frame program writes for the scene on standard input
+       oracle compare FOLDER SCENES SEED
+       oracle damage FOLDER SEED";
+
+/// What a command writes. None for words that are no command, a failure's text for one that failed.
+fn answer(words: &[&str]) -> Option<Result<Vec<u8>, String>> {
+    let list = match *words {
         ["colour"] => colour::list(),
         ["tiles"] => tiles::list(),
         ["registers"] => registers::list(),
         ["oam"] => oam::list(),
-        ["choice"] => choice::list(),
-        ["port"] => port::list(),
-        ["background"] => background::list(),
-        ["sprites"] => sprites::list(),
-        ["rows"] => rows::list(),
         ["outside"] => outside::list(),
-        _ => {
-            eprintln!(
-                "usage: oracle colour | tiles | registers | oam | choice | port | background | sprites | rows | outside"
-            );
-            return ExitCode::from(2);
+        ["scene", kind, seed] => {
+            let scene = kinds::scene(kinds::named(kind)?, seed.parse().ok()?);
+            return Some(Ok(scene.bytes()));
         }
+        ["frame"] => {
+            let mut bytes = Vec::new();
+            let read = io::stdin().read_to_end(&mut bytes);
+            return Some(
+                read.map(|_| frame::answer(&bytes))
+                    .map_err(|e| e.to_string()),
+            );
+        }
+        ["compare", folder, scenes, seed] => {
+            let scenes: NonZero<u32> = scenes.parse().ok()?;
+            let compared = compare::all(folder, scenes.get(), seed.parse().ok()?);
+            return Some(compared.map(|()| Vec::new()));
+        }
+        ["damage", folder, seed] => {
+            let fed = damage::all(folder, seed.parse().ok()?);
+            return Some(fed.map(|()| Vec::new()));
+        }
+        [name, ref rest @ ..] => {
+            let list = compare::LISTS.iter().find(|list| list.name == name)?;
+            match *rest {
+                [] => (list.make)(list.seed),
+                [seed] => (list.make)(seed.parse().ok()?),
+                _ => return None,
+            }
+        }
+        [] => return None,
     };
-    match io::stdout().write_all(list.as_bytes()) {
-        Ok(()) => ExitCode::SUCCESS,
-        Err(_) => ExitCode::FAILURE,
+    Some(Ok(list.into_bytes()))
+}
+
+fn main() -> ExitCode {
+    let words: Vec<String> = env::args().skip(1).collect();
+    match answer(&words.iter().map(String::as_str).collect::<Vec<_>>()) {
+        None => {
+            eprintln!("{USAGE}");
+            ExitCode::from(2)
+        }
+        Some(Err(text)) => {
+            eprintln!("{text}");
+            ExitCode::FAILURE
+        }
+        Some(Ok(bytes)) => match io::stdout().write_all(&bytes) {
+            Ok(()) => ExitCode::SUCCESS,
+            Err(_) => ExitCode::FAILURE,
+        },
     }
 }

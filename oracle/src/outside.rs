@@ -2,10 +2,14 @@
 //!
 //! It depends on the build: a debug build stops at a sum that overflows, a release build goes on.
 
+use crate::frame;
+use crate::kinds::{self, Kind};
+use crate::rows::{ROWS, stepped};
 use rust_ppu::oam::OAM;
-use rust_ppu::ppu::PPU;
+use rust_ppu::ppu::{PPU, PpuEvent};
 use rust_ppu::rendering::renderer::{BgParams, BitDepth, Layer, Priority, Renderer};
 use rust_ppu::vram::VRAM;
+use std::collections::BTreeSet;
 use std::fmt::Debug;
 use std::panic::{self, AssertUnwindSafe};
 
@@ -19,7 +23,7 @@ fn line<T: Debug>(case: &str, run: impl FnOnce() -> T) -> String {
 
 pub fn list() -> String {
     panic::set_hook(Box::new(|_| ()));
-    rows() + &backgrounds() + &lines() + &windows() + &sprites() + &tiles() + &rest()
+    rows() + &backgrounds() + &lines() + &windows() + &sprites() + &tiles() + &rest() + &counters()
 }
 
 fn rows() -> String {
@@ -202,5 +206,79 @@ fn rest() -> String {
         Renderer::apply_brightness(0x7fff, 16)
     });
     out += &line("mosaic_voffset size 1, counter 17", || ppu.mosaic_voffset());
+    out
+}
+
+/// Ticks to the start of the next scanline, where the Rust steps the counter itself.
+fn next_scanline(ppu: &mut PPU) {
+    while !matches!(ppu.tick(), Some(PpuEvent::ScanlineStart(_))) {}
+}
+
+/// The counter after a scanline. Row 0 is scanline 1.
+fn walked(mosaic: u8, counter: u8, scanline: u16) -> u8 {
+    let mut ppu = PPU::new();
+    ppu.regs.mosaic = mosaic;
+    ppu.mosaic_vcounter = counter;
+    ppu.scanline = scanline;
+    next_scanline(&mut ppu);
+    ppu.mosaic_vcounter
+}
+
+/// The counters for which the Rust's step after row 0 is another than document 01's.
+fn apart(mosaic: u8) -> Vec<u8> {
+    (0..=16)
+        .filter(|counter| walked(mosaic, *counter, 1) != stepped(mosaic, *counter))
+        .collect()
+}
+
+/// The rows of a picture with this mosaic that show something else where the Rust walks by itself, from
+/// scanline 0 on.
+fn rows_apart(mosaic: u8, counter: u8) -> Vec<u32> {
+    let [mut ours, mut own] = [(); 2].map(|_| {
+        let mut scene = kinds::scene(Kind::Picture, 1);
+        scene.regs.mosaic = mosaic;
+        scene.counter = counter;
+        scene.screen()
+    });
+    let plate = frame::plate(&mut ours);
+    let row = |y: u32| &plate[15 + y as usize * 768..][..768];
+    (0..ROWS)
+        .filter(|y| {
+            next_scanline(&mut own.ppu);
+            own.row(*y) != row(*y)
+        })
+        .collect()
+}
+
+/// The Rust's own walk of the mosaic counter beside document 01's.
+fn counters() -> String {
+    let mut out = String::new();
+    for (mosaic, counter) in [(0x00, 0), (0x00, 1), (0x01, 0), (0x01, 1)] {
+        out += &line(
+            &format!("the counter after row 0, mosaic {mosaic:#04x}, counter {counter}"),
+            || walked(mosaic, counter, 1),
+        );
+    }
+    for (mosaic, counter) in [(0x00, 1), (0x01, 0), (0x31, 2)] {
+        out += &line(
+            &format!("the counter at row 0, mosaic {mosaic:#04x}, counter {counter} before it"),
+            || walked(mosaic, counter, 0),
+        );
+    }
+    for (case, on) in [("a mosaic", true), ("no mosaic", false)] {
+        out += &line(
+            &format!("the counters whose step parts, with {case} on"),
+            || {
+                let registers = (0..=255).filter(|mosaic| (mosaic % 16 != 0) == on);
+                registers.flat_map(apart).collect::<BTreeSet<u8>>()
+            },
+        );
+    }
+    for (mosaic, counter) in [(0x00, 0), (0x01, 0), (0x01, 1), (0x31, 4)] {
+        out += &line(
+            &format!("the rows that part, mosaic {mosaic:#04x}, counter {counter}"),
+            || rows_apart(mosaic, counter),
+        );
+    }
     out
 }

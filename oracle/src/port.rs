@@ -6,9 +6,14 @@ use crate::generator::Generator;
 use crate::oam::fold;
 use rust_ppu::oam::OAM;
 
-pub fn list() -> String {
+pub const SEED: u32 = 30;
+
+pub fn list(seed: u32) -> String {
     let mut oam = OAM::new();
-    mixed(&mut oam) + &runs(&mut oam) + &latch(&mut oam) + &whole(&mut oam)
+    mixed(&mut oam, seed)
+        + &runs(&mut oam, seed.wrapping_add(1))
+        + &latch(&mut oam, seed.wrapping_add(2))
+        + &whole(&mut oam)
 }
 
 /// A digest of the 544 bytes, put together from the sprites: reading through the port would move it.
@@ -49,9 +54,9 @@ fn access(oam: &mut OAM, op: u16, value: u16) -> String {
 }
 
 /// Random accesses, 64 to a line: the bytes read; the memory's digest.
-fn mixed(oam: &mut OAM) -> String {
+fn mixed(oam: &mut OAM, seed: u32) -> String {
     let mut out = String::from("mixed\n");
-    let mut numbers = Generator::new(30);
+    let mut numbers = Generator::new(seed);
     for n in 0..8192 {
         let op = numbers.below(16) as u16;
         let value = numbers.word();
@@ -65,9 +70,9 @@ fn mixed(oam: &mut OAM) -> String {
 
 /// From each edge, and from one byte further on: 80 bytes written; the memory's digest; 80 bytes read
 /// from the same place.
-fn runs(oam: &mut OAM) -> String {
+fn runs(oam: &mut OAM, seed: u32) -> String {
     let mut out = String::from("runs\n");
-    let mut numbers = Generator::new(31);
+    let mut numbers = Generator::new(seed);
     for n in 0..16 {
         let start = |oam: &mut OAM| {
             oam.write_addr(edge(n / 2));
@@ -91,9 +96,9 @@ fn runs(oam: &mut OAM) -> String {
 
 /// A byte waits in the latch while the address is written, a byte is read and, every other time,
 /// the second table is written to. Then the pair is stored elsewhere and read back.
-fn latch(oam: &mut OAM) -> String {
+fn latch(oam: &mut OAM, seed: u32) -> String {
     let mut out = String::from("latch\n");
-    let mut numbers = Generator::new(32);
+    let mut numbers = Generator::new(seed);
     for n in 0..64 {
         let [from, to] = [(); 2].map(|_| numbers.below(256) as u16);
         let [first, second, other] = [(); 3].map(|_| numbers.below(256) as u8);

@@ -12,12 +12,13 @@ use rust_ppu::registers::PPURegisters;
 const FILLINGS: u32 = 8;
 /// The scenes of a filling of VRAM and colour memory.
 const SCENES: u32 = 16;
-const ROWS: u32 = 224;
+pub const ROWS: u32 = 224;
+pub const SEED: u32 = 60;
 
-pub fn list() -> String {
+pub fn list(seed: u32) -> String {
     let mut stage = Stage {
         screen: Screen::new(),
-        numbers: Generator::new(60),
+        numbers: Generator::new(seed),
     };
     let mut out = String::from("scenes\n");
     for n in 0..FILLINGS * SCENES {
@@ -31,7 +32,7 @@ pub fn list() -> String {
 
 /// What VRAM holds at i, of two words: any word; nothing, few bits or many, in runs of 16 words; a
 /// picture's.
-fn held(filling: u32, i: usize, a: u16, b: u16) -> u16 {
+pub fn held(filling: u32, i: usize, a: u16, b: u16) -> u16 {
     match filling % 4 {
         0 => a,
         2 => pictured(i, a, b),
@@ -79,7 +80,7 @@ fn light(n: u32, byte: u8) -> u8 {
 }
 
 /// The mosaic counter after a row.
-fn stepped(mosaic: u8, counter: u8) -> u8 {
+pub fn stepped(mosaic: u8, counter: u8) -> u8 {
     match counter {
         0 | 1 => mosaic / 16 + 1,
         _ => counter - 1,
@@ -89,7 +90,7 @@ fn stepped(mosaic: u8, counter: u8) -> u8 {
 /// The kinds of scenes: any registers; backgrounds, at every brightness; crowds of sprites; windows;
 /// colour math, at every setting; mosaics of every size; direct colour and sprites in interlace; a
 /// picture of few tiles.
-fn turned(regs: &mut PPURegisters, kind: u32, turn: u8) {
+pub fn turned(regs: &mut PPURegisters, kind: u32, turn: u8) {
     match kind {
         0 if turn % 2 == 0 => {
             regs.tm |= 0x11;
@@ -184,6 +185,34 @@ fn top(kind: u32, turn: u16, c: u16) -> u16 {
     }
 }
 
+fn two(numbers: &mut Generator) -> [u8; 2] {
+    bytes(numbers.word())
+}
+
+/// Registers of every value, and two bytes for the counter and the field.
+pub fn any_registers(numbers: &mut Generator) -> (PPURegisters, [u8; 2]) {
+    let mut regs = PPURegisters::new();
+    [regs.inidisp, regs.objsel] = two(numbers);
+    regs.oamadd = numbers.word();
+    [regs.bgmode, regs.mosaic] = two(numbers);
+    let inputs = two(numbers);
+    let [first, second] = [(); 2].map(|_| two(numbers));
+    regs.bgsc = [first[0], first[1], second[0], second[1]];
+    [regs.bg12nba, regs.bg34nba] = two(numbers);
+    let h = [(); 4].map(|_| numbers.word());
+    let v = [(); 4].map(|_| numbers.word());
+    (regs.bg1hofs, regs.bghofs) = (h[0], [h[1], h[2], h[3]]);
+    (regs.bg1vofs, regs.bgvofs) = (v[0], [v[1], v[2], v[3]]);
+    [regs.w12sel, regs.w34sel] = two(numbers);
+    [regs.wobjsel, regs.wobjlog] = two(numbers);
+    [[regs.wh0, regs.wh1], [regs.wh2, regs.wh3]] = [(); 2].map(|_| two(numbers));
+    [regs.wbglog, regs.setini] = two(numbers);
+    [[regs.tm, regs.ts], [regs.tmw, regs.tsw]] = [(); 2].map(|_| two(numbers));
+    [regs.cgwsel, regs.cgadsub] = two(numbers);
+    regs.coldata = numbers.word();
+    (regs, inputs)
+}
+
 struct Stage {
     screen: Screen,
     numbers: Generator,
@@ -202,48 +231,16 @@ impl Stage {
         }
     }
 
-    fn two(&mut self) -> [u8; 2] {
-        bytes(self.numbers.word())
-    }
-
-    /// Registers of every value, the counter and the field.
+    /// Registers of every value, turned to the scene's kind, the counter and the field.
     fn registers(&mut self, n: u32) {
-        let [inidisp, objsel] = self.two();
-        let oamadd = self.numbers.word();
-        let [bgmode, mosaic] = self.two();
-        let [counter, field] = self.two();
-        let [first, second] = [(); 2].map(|_| self.two());
-        let [bg12nba, bg34nba] = self.two();
-        let h = [(); 4].map(|_| self.numbers.word());
-        let v = [(); 4].map(|_| self.numbers.word());
-        let [w12sel, w34sel] = self.two();
-        let [wobjsel, wobjlog] = self.two();
-        let edges = [(); 2].map(|_| self.two());
-        let [wbglog, setini] = self.two();
-        let screens = [(); 2].map(|_| self.two());
-        let [cgwsel, cgadsub] = self.two();
-        let coldata = self.numbers.word();
+        let (mut regs, [counter, field]) = any_registers(&mut self.numbers);
+        regs.inidisp = light(n, regs.inidisp);
+        regs.bgmode = regs.bgmode / 8 * 8 + mode_of(n);
+        turned(&mut regs, n % 8, (n / 8 % 16) as u8);
         let ppu = &mut self.screen.ppu;
         ppu.mosaic_vcounter = counter % 17;
         ppu.frame = (field % 2) as u64;
-        let regs = &mut ppu.regs;
-        regs.inidisp = light(n, inidisp);
-        regs.objsel = objsel;
-        regs.oamadd = oamadd;
-        regs.bgmode = bgmode / 8 * 8 + mode_of(n);
-        regs.mosaic = mosaic;
-        regs.bgsc = [first[0], first[1], second[0], second[1]];
-        [regs.bg12nba, regs.bg34nba] = [bg12nba, bg34nba];
-        (regs.bg1hofs, regs.bghofs) = (h[0], [h[1], h[2], h[3]]);
-        (regs.bg1vofs, regs.bgvofs) = (v[0], [v[1], v[2], v[3]]);
-        [regs.w12sel, regs.w34sel] = [w12sel, w34sel];
-        [regs.wobjsel, regs.wobjlog] = [wobjsel, wobjlog];
-        [[regs.wh0, regs.wh1], [regs.wh2, regs.wh3]] = edges;
-        [regs.wbglog, regs.setini] = [wbglog, setini];
-        [[regs.tm, regs.ts], [regs.tmw, regs.tsw]] = screens;
-        [regs.cgwsel, regs.cgadsub] = [cgwsel, cgadsub];
-        regs.coldata = coldata;
-        turned(regs, n % 8, (n / 8 % 16) as u8);
+        ppu.regs = regs;
     }
 
     /// Sprite memory.

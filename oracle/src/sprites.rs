@@ -13,13 +13,14 @@ const SCENES: u32 = 160;
 /// The rows of a scene, and the columns that are asked in each.
 const ROWS: u32 = 4;
 const COLUMNS: u32 = 6;
+pub const SEED: u32 = 50;
 /// The sprites' bit of tm and ts.
 const OBJ: u8 = 0x10;
 
-pub fn list() -> String {
+pub fn list(seed: u32) -> String {
     let mut stage = Stage {
         screen: Screen::new(),
-        numbers: Generator::new(50),
+        numbers: Generator::new(seed),
     };
     let mut out = String::from("scenes\n");
     for n in 0..SCENES {
