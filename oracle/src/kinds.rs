@@ -6,7 +6,7 @@
 use crate::choice::{beside, put};
 use crate::generator::Generator;
 use crate::pictured;
-use crate::rows::{any_registers, held, turned};
+use crate::rows::{any_registers, held, mode_of, turned};
 use crate::scene::Scene;
 
 #[derive(Clone, Copy, PartialEq)]
@@ -127,11 +127,15 @@ fn sprites(scene: &mut Scene, kind: Kind, numbers: &mut Generator) {
     }
 }
 
-/// The kind's own registers.
+/// The kind's own registers. Modes 0, 1 and 3 are as frequent as all the others, but for the uniform ones.
 fn own(scene: &mut Scene, kind: Kind, seed: u32, numbers: &mut Generator) {
     let drawn = numbers.word();
+    let mode = mode_of(numbers.below(40));
     let turn = (seed % 16) as u8;
     let regs = &mut scene.regs;
+    if !matches!(kind, Kind::Uniform | Kind::Blank) {
+        regs.bgmode = regs.bgmode / 8 * 8 + mode;
+    }
     match kind {
         Kind::Uniform | Kind::Blank | Kind::Picture => {}
         Kind::Sprites | Kind::Interlace => {

@@ -60,7 +60,7 @@ fn pictured(i: usize, a: u16, b: u16) -> u16 {
 }
 
 /// Modes 0, 1 and 3 and one of the modes that draw as mode 1, in turn.
-fn mode_of(n: u32) -> u8 {
+pub fn mode_of(n: u32) -> u8 {
     let turn = n / 8 + n % 8;
     match turn % 4 {
         0 => 0,
