@@ -78,9 +78,10 @@ fn whole(
 }
 
 // Draws the scene so many times, with another byte of each row each time, and once more with all.
+// The digest begins at 1 and the row is not black before, so that a black row that is left out shows.
 pub(crate) fn often(vram: &[u16], cgram: &[u16], oam: &[u8], r: PPURegisters, times: u16) -> u32 {
-    let mut row = [0u8; 768];
-    let mut d: u32 = 0;
+    let mut row = [1u8; 768];
+    let mut d: u32 = 1;
     for k in 0..times {
         d = once(&mut row, vram, cgram, oam, r, d, k as usize % 768);
     }
