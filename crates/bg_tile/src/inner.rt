@@ -65,7 +65,7 @@ pub fn character(vram: &[u16], p: BgParams, map_row: usize, px: usize, py: usize
 }
 
 // How many colours a tile has.
-fn colors(bpp: BitDepth) -> usize
+pub fn colors(bpp: BitDepth) -> usize
     ensures { λ r. ⌜ r ≡ coloursOf bpp ⌝ }
 {
     match bpp {
@@ -76,7 +76,7 @@ fn colors(bpp: BitDepth) -> usize
 }
 
 // Where the colours of background bg's palette n begin.
-fn palette_start(bpp: BitDepth, own: bool, bg: usize, n: u8) -> usize
+pub fn palette_start(bpp: BitDepth, own: bool, bg: usize, n: u8) -> usize
     requires { ⌜ (bg < 4) × (n < 8) ⌝ }
     ensures { λ r. ⌜ r ≡ startOf bpp own bg n ⌝ }
 {

@@ -60,7 +60,7 @@ fn colors(lines: Lines, s: ColorMath, inside: [bool; 256]) -> [u16; 256]
 }
 
 // Writes a row of colours at a brightness.
-fn brighten(row: &mut [u8], colors: [u16; 256], brightness: u16)
+pub fn brighten(row: &mut [u8], colors: [u16; 256], brightness: u16)
     requires { ⌜ (length (now row) ≡ 768) × (brightness < 16) ⌝ }
     ensures { λ u. ⌜ now (row .exit) ≡ tab 768 (byteAt (λ x. getD colors x 0) brightness) ⌝ }
 {

@@ -5,7 +5,7 @@ use crate::LinePixel;
 use crate::Priority;
 ghost use mathlib.Core.Path.{_≡_};
 ghost use mathlib.Core.Bool.{cond};
-ghost use Prim.Native.Nat.{_<_};
+ghost use Prim.Native.Nat.{_+_, _<_, _≤_};
 ghost use Rattle.line.specs.Pixels.{layerOf, backgroundOf};
 
 // The layer of background bg.
@@ -33,6 +33,13 @@ pub fn bg_index(layer: Layer) -> usize
         Layer::Bg4 => 3,
         Layer::Obj => 4,
     }
+}
+
+// A priority's rank among those of a line: from 1 on, so that 0 is left for no pixel.
+pub fn rank(z: Priority) -> u32
+    ensures { λ r. ⌜ (r ≡ z .0 + 1) × (r ≤ 256) ⌝ }
+{
+    z.0 as u32 + 1
 }
 
 // Of two colours the first, where `on` says so, and otherwise the second.

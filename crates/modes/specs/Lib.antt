@@ -1,3 +1,4 @@
 pub mod Modes
 pub mod Answers
 pub mod Ties
+pub mod Own

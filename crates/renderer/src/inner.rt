@@ -1,26 +1,34 @@
-// What the public calls of this crate stand on.
+// What the public calls of this crate stand on. A whole row is drawn over packed pixels; step by step,
+// over lines of pixels, the layers are laid in the crate layers.
 use composite::inner::black;
-use composite::inner::composite;
-use layers::inner::lay;
-use line::Lines;
+use composite::inner::brighten;
+use packed::inner::backdrop;
+use packed_row::inner::colors;
+use packed_tile::inner::wide;
 use registers::PPURegisters;
 ghost use mathlib.Core.Path.{_≡_};
 ghost use lib.ListN.{length};
+ghost use Rattle.lists.specs.Tab.{tab};
+ghost use Rattle.line.specs.Recoloured.{recolouredLines};
 ghost use Rattle.sprites.specs.Sprites.{Sound};
+ghost use Rattle.composite.specs.Composite.{colourAt};
+ghost use Rattle.packed_composite.specs.Laws.{low16};
 ghost use Rattle.layers.specs.Layers.{scene};
 ghost use Rattle.renderer.specs.Renderer.{linesOf, rowOf};
 
-// Both lines of row y: the backdrops, and the five layers over them.
-fn lines(vram: &[u16], cgram: &[u16], oam: &[u8], r: PPURegisters, y: usize) -> Lines
+// The colours of row y before brightness: the rows of the five layers, and colour math.
+fn mixed(vram: &[u16], cgram: &[u16], oam: &[u8], r: PPURegisters, y: usize) -> [u16; 256]
     requires { ⌜ Sound (length (now cgram)) (length (now oam)) y ⌝ }
-    ensures { λ o. ⌜ o ≡ linesOf (scene r (now (vram .entry)) (now (cgram .entry)) (now (oam .entry))) y ⌝ }
+    ensures { λ o. ⌜ o ≡ tab 256 (colourAt r (recolouredLines low16 (linesOf (scene r (now (vram .entry)) (now (cgram .entry)) (now (oam .entry))) y))) ⌝ }
 {
-    let start = Lines::backdrops(cgram[0], r.coldata);
-    let first = lay(start, vram, cgram, oam, r, y, 0);
-    let second = lay(first, vram, cgram, oam, r, y, 1);
-    let third = lay(second, vram, cgram, oam, r, y, 2);
-    let fourth = lay(third, vram, cgram, oam, r, y, 3);
-    lay(fourth, vram, cgram, oam, r, y, 4)
+    let back = backdrop(cgram[0]);
+    let g = wide(cgram);
+    let first = packed_bg::inner::row(vram, &g, r, y, 0);
+    let second = packed_bg::inner::row(vram, &g, r, y, 1);
+    let third = packed_bg::inner::row(vram, &g, r, y, 2);
+    let fourth = packed_bg::inner::row(vram, &g, r, y, 3);
+    let fifth = packed_sprites::inner::row(vram, &g, oam, r, y);
+    colors(&first, &second, &third, &fourth, &fifth, back, r)
 }
 
 // Draws row y into a lent row. Under forced blank nothing is laid.
@@ -32,6 +40,6 @@ pub fn render(row: &mut [u8], vram: &[u16], cgram: &[u16], oam: &[u8], r: PPUReg
         black(row);
         return;
     }
-    let lines = lines(vram, cgram, oam, r, y);
-    composite(row, lines, r);
+    let colors = mixed(vram, cgram, oam, r, y);
+    brighten(row, colors, r.brightness() as u16);
 }

@@ -36,7 +36,7 @@ module _ (v g : List ℕ) (s : Slice) where
 
   module _ (held : ℕ → Candidate) (k : ℕ) where
     -- a column that is not the pixel's
-    other : (x : ℕ) → (offsetIn s x ≡ k → ⊥) → after held k x ≡ after held (k + 1) x
+    pub other : (x : ℕ) → (offsetIn s x ≡ k → ⊥) → after held k x ≡ after held (k + 1) x
     unfolding drawnTo
     other x d = rw (below-other (offsetIn s x) k d)
 

@@ -11,18 +11,21 @@ use registers::PPURegisters;
 use registers::constants::COLOUR_WORDS;
 use registers::constants::SCREEN_HEIGHT;
 use registers::inner::bit;
+use sprite_fetch::Fetched;
 use sprite_fetch::inner::draw;
 use sprite_fetch::inner::fetch;
 use sprite_tile::View;
 use tiles::inner::VRAM_WORDS;
 ghost use mathlib.Core.Path.{_≡_};
 ghost use mathlib.Core.Bool.{true};
-ghost use Prim.Native.Nat.{_<_};
+ghost use Prim.Native.Nat.{_<_, _≤_};
 ghost use lib.ListN.{length};
 ghost use Rattle.refusal.specs.Verdicts.{verdictMeans, Passed};
 ghost use Rattle.lists.specs.Tab.{tab};
 ghost use Rattle.laying.specs.Laying.{candidatesOf, layLines};
-ghost use Rattle.sprites.specs.Sprites.{Sound, rowTests, viewOf, spritePixel, shownOf, emptyLine};
+ghost use Rattle.sprites.specs.Sprites.{Sound, rowTests, viewOf, chosenSprites, spritePixel, shownOf, emptyLine};
+ghost use Rattle.sprite_fetch.specs.Fetch.{fetched};
+ghost use Rattle.sprite_fetch.specs.Walk.{fetchedList, AllSound};
 
 // The sprites' bit of tm, ts, tmw and tsw.
 const OBJ: usize = 4;
@@ -73,15 +76,22 @@ fn view(r: PPURegisters, y: usize) -> View
     }
 }
 
-// The sprite line: the sprites are chosen, their tiles fetched and drawn.
+// The fetched tiles of row y: the sprites are chosen, and their tiles fetched.
+pub fn tiles(oam: &[u8], r: PPURegisters, y: usize) -> Fetched
+    requires { ⌜ (length (now oam) ≡ 544) × (y < 224) ⌝ }
+    ensures { λ f. ⌜ (f ≡ fetchedList (viewOf r y) (fetched 34 (r .objsel) (chosenSprites (now (oam .entry)) r y))) × ((f .count ≤ 34) × AllSound (f .count) (f .slices)) ⌝ }
+{
+    let view = view(r, y);
+    let chosen = choose(oam, view.row, view.objsel, r.oamadd, view.obj_interlace);
+    fetch(chosen, view)
+}
+
+// The sprite line: the fetched tiles are drawn.
 pub fn line(vram: &[u16], cgram: &[u16], oam: &[u8], r: PPURegisters, y: usize) -> [Candidate; 256]
     requires { ⌜ Sound (length (now cgram)) (length (now oam)) y ⌝ }
     ensures { λ l. ⌜ l ≡ tab 256 (spritePixel (now (vram .entry)) (now (cgram .entry)) (now (oam .entry)) r y) ⌝ }
 {
-    let view = view(r, y);
-    let chosen = choose(oam, view.row, view.objsel, r.oamadd, view.obj_interlace);
-    let f = fetch(chosen, view);
-    draw(f, vram, cgram)
+    draw(tiles(oam, r, y), vram, cgram)
 }
 
 // Where the sprites are shown.

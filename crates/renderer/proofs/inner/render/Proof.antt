@@ -1,10 +1,29 @@
-use mathlib.Core.Path.{sym, _∙_}
-use Rattle.composite.specs.Composite.{rowBytes}
-use Rattle.composite.proofs.Rows.{blank-row}
-use Rattle.renderer.specs.Renderer.{rowOf}
 use borrow.Author.Needs.{needs}
+use Prim.Native.Nat.{ℕ, _%_}
+use denote.Ref.{now}
+use mathlib.Core.Path.{_≡_, refl, sym, _∙_}
+use native.Mathlib.Omega.{arith}
+use lib.ListN.{getD}
+use Rattle.lists.specs.Tab.{getD-tab}
+use Rattle.registers.specs.Coldata.{withColdata}
+use Rattle.colour.specs.Bit15.{SameColour}
+use Rattle.line.specs.Recoloured.{recolouredLines}
+use Rattle.composite.specs.Composite.{colourAt, rowBytes}
+use Rattle.composite.specs.Bit15.{row-blind}
+use Rattle.composite.proofs.Rows.{blank-row, lit-row}
+use Rattle.packed_composite.specs.Laws.{low16}
+use Rattle.layers.specs.Layers.{scene}
+use Rattle.renderer.specs.Renderer.{linesOf, rowOf}
 use Rattle.renderer.proofs.inner.render.Statement.{statement}
 use Rattle.renderer.proofs.inner.render.Tie as tie
+
+-- coldata is a word
+word : (c : tie.Start) → c .args .r .coldata ≡ low16 (c .args .r .coldata)
+word c = omega arith
+
+-- the low 16 bits of a colour are the colour, but for bit 15
+same : (c : ℕ) → SameColour (low16 c) c
+same c = omega arith
 
 returns : tie.Need-returns
 unfolding rowOf
@@ -18,9 +37,20 @@ returns-2 : tie.Need-returns-2
 unfolding rowOf
 returns-2 c =
     let m = c .before .before in
-    let l = m .before .before in
-    let a = l .before .before .before .before .before .before .before .args in
-    m .composite .ensures ∙ (λ i. rowBytes (a .r) (l .lines .ensures i))
+    let b = m .before in
+    let k = b .before .before in
+    let e = k .before in
+    let f = e .before in
+    let s = f .before .before .before .before .before in
+    let a = s .args in
+    let r = a .r in
+    let lines = linesOf (scene r (now (a .vram)) (now (a .cgram)) (now (a .oam))) (a .y) in
+    let low = recolouredLines low16 lines in
+    let lit = sym (f .force-blank .ensures) ∙ e .if1 .left in
+    m .brighten .ensures
+    ∙ (lit-row r low _ _ lit (b .brightness .ensures)
+    (λ x h. (λ i. getD (k .mixed .ensures i) x 0) ∙ getD-tab (colourAt r low) 256 x 0 h)
+    ∙ ((λ i. rowBytes (withColdata (word s i) r) low) ∙ row-blind low16 refl same r lines))
 
 pub render-spec : {M : Type 1} → statement M
 render-spec =
@@ -31,6 +61,8 @@ render-spec =
     (λ c. search needs)
     returns
     (λ c κs. search needs)
+    (λ c κs. search needs)
+    (λ c. search needs)
     (λ c κs. search needs)
     (λ c. search needs)
     returns-2)

@@ -1,0 +1,12 @@
+use borrow.Author.Needs.{needs}
+use native.Mathlib.Omega.{arith}
+use Rattle.packed.specs.Packed.{packed}
+use Rattle.packed.proofs.inner.backdrop.Statement.{statement}
+use Rattle.packed.proofs.inner.backdrop.Tie as tie
+
+returns : tie.Need-returns
+unfolding packed
+returns c = omega (arith, c .head .ensures .0)
+
+pub backdrop-spec : {M : Type 1} → statement M
+backdrop-spec = tie.close (tie.spec (λ c κs. search needs) (λ c. search needs) returns)

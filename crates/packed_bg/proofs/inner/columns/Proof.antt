@@ -1,0 +1,17 @@
+use borrow.Author.Needs.{needs}
+use denote.Ref.{now}
+use Prim.Native.Nat.{ℕ, _+_}
+use mathlib.Core.Path.{ap, _∙_}
+use lib.ListN.{getD}
+use Rattle.lists.specs.Tab.{tab-ext}
+use Rattle.bg_row.proofs.Spread.{alone}
+use Rattle.packed_bg.proofs.inner.columns.Statement.{statement}
+use Rattle.packed_bg.proofs.inner.columns.Tie as tie
+
+returns : tie.Need-returns
+returns c =
+    let a = c .before .before .before .args in
+    c .shifted .ensures ∙ tab-ext 256 _ _ (λ x h. ap (λ (n : ℕ). getD (now (a .cells)) (n + a .fine) 0) (alone (a .block) x (c .before .if1 .taken)))
+
+pub columns-spec : {M : Type 1} → statement M
+columns-spec = tie.close (tie.spec (λ c κs. search needs) returns (λ c κs. search needs) (λ c. search needs))

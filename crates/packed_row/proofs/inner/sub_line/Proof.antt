@@ -1,0 +1,44 @@
+use borrow.Author.Needs.{needs}
+use denote.Ref.{now}
+use Prim.Native.Nat.{ℕ}
+use mathlib.Core.Path.{_≡_, refl, sym, _∙_}
+use mathlib.Core.Bool.{Bool, cond}
+use Rattle.lists.specs.Tab.{tab, tab-same}
+use Rattle.registers.specs.Bits.{bitOf}
+use Rattle.line.specs.Pixels.{backdropOf}
+use Rattle.packed.specs.Packed.{packed}
+use Rattle.packed_row.specs.Screens.{screenAt}
+use Rattle.packed_row.proofs.inner.sub_line.Statement.{statement}
+use Rattle.packed_row.proofs.inner.sub_line.Tie as tie
+
+-- the line where a test holds
+abbrev shown : (c : tie.Start) → Bool → ℕ → ℕ
+shown c on x =
+    let p = c .args in
+    cond on (screenAt (now (p .a)) (now (p .b)) (now (p .c)) (now (p .d)) (now (p .e)) (packed (backdropOf (p .r .coldata))) (p .r) (p .r .ts) (p .r .tsw) x) 0
+
+returns : tie.Need-returns
+returns c =
+    let k = c .before in
+    let b = k .before .before in
+    let s = b .before .before .before .before .before .before in
+    let p = s .args in
+    c .screen .ensures
+    ∙ ((λ i. tab 256 (screenAt (now (p .a)) (now (p .b)) (now (p .c)) (now (p .d)) (now (p .e)) (k .backdrop .ensures i) (p .r) (p .r .ts) (p .r .tsw)))
+    ∙ ((λ i. tab 256 (shown s (sym (k .before .if1 .taken) i))) ∙ (λ i. tab 256 (shown s (b .bit .ensures i)))))
+
+returns-2 : tie.Need-returns-2
+returns-2 c =
+    let b = c .before in
+    let s = b .before .before .before .before .before .before in
+    tab-same 256 {b = 0} refl ∙ ((λ i. tab 256 (shown s (sym (c .if1 .left) i))) ∙ (λ i. tab 256 (shown s (b .bit .ensures i))))
+
+pub sub-line-spec : {M : Type 1} → statement M
+sub-line-spec =
+    tie.close
+    (tie.spec
+    (λ c κs. search needs)
+    (λ c κs. search needs)
+    (λ c κs. search needs)
+    returns
+    returns-2)

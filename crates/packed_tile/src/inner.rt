@@ -1,0 +1,175 @@
+// What the crates above ask of packed character rows.
+use bg_map::BgParams;
+use bg_tile::Character;
+use bg_tile::inner::palette_start;
+use colour::direct_color;
+use line::inner::bg_index;
+use packed::inner::head;
+use packed::inner::pick;
+use tiles::BitDepth;
+use tiles::inner::mirror;
+use tiles::inner::plane_word;
+use tiles::inner::two_bits;
+ghost use mathlib.Core.Path.{_≡_};
+ghost use mathlib.Core.Bool.{_&&_};
+ghost use Prim.Native.Nat.{_<_};
+ghost use lib.ListN.{length};
+ghost use Rattle.lists.specs.Tab.{tab};
+ghost use Rattle.tiles.specs.Tiles.{pairOf, mirrored};
+ghost use Rattle.line.specs.Pixels.{backgroundOf};
+ghost use Rattle.packed.specs.Packed.{packedIf};
+ghost use Rattle.bg_tile.specs.Tile.{paletteOf, isEight};
+ghost use Rattle.bg_tile.specs.Characters.{cellIn};
+ghost use Rattle.packed_tile.specs.Shades.{fourOf, eightOf, shade, shadeDirect};
+
+fn widened(color: u16) -> u32
+    ensures { λ r. ⌜ r ≡ color ⌝ }
+{
+    color as u32
+}
+
+// Colour memory in wide words, which a processor looks up many at a time.
+pub fn wide(cgram: &[u16]) -> [u32; 256]
+    requires { ⌜ length (now cgram) ≡ 256 ⌝ }
+    ensures { λ r. ⌜ r ≡ now (cgram .entry) ⌝ }
+{
+    let mut out = [0; 256];
+    for i in 0..256 {
+        out[i] = widened(cgram[i]);
+    }
+    out
+}
+
+// A tile's colours, a part of it.
+fn palette<'a>(g: &'a [u32], p: BgParams, n: u8) -> &'a [u32]
+    requires { ⌜ (length (now g) ≡ 256) × ((backgroundOf (p .layer) < 4) × (n < 8)) ⌝ }
+    ensures { λ r. ⌜ now r ≡ paletteOf (now (g .entry)) p n ⌝ }
+{
+    let bpp = p.bpp;
+    let layer = p.layer;
+    let start = palette_start(bpp, p.own_palettes, bg_index(layer), n);
+    let end = start + bg_tile::inner::colors(bpp);
+    &g[start..end]
+}
+
+// The packed pixel of a colour index, under its head.
+fn shaded(colors: &[u32], head: u32, index: u8) -> u32
+    requires { ⌜ (index < length (now colors)) × (head < 134742016) ⌝ }
+    ensures { λ r. ⌜ r ≡ shade (now (colors .entry)) head index ⌝ }
+{
+    let at = index as usize;
+    pick(index != 0, head + colors[at] % 65536, 0)
+}
+
+// The colour index of a column in the words of two plane pairs.
+fn index_four(w0: u16, w1: u16, col: usize) -> u8
+    requires { ⌜ col < 8 ⌝ }
+    ensures { λ r. ⌜ (r ≡ fourOf w0 w1 col) × (r < 16) ⌝ }
+{
+    let low = two_bits(w0, col);
+    let high = two_bits(w1, col);
+    low + 4 * high
+}
+
+// And in those of four.
+fn index_eight(w0: u16, w1: u16, w2: u16, w3: u16, col: usize) -> u8
+    requires { ⌜ col < 8 ⌝ }
+    ensures { λ r. ⌜ (r ≡ eightOf w0 w1 w2 w3 col) × (r < 256) ⌝ }
+{
+    let low = index_four(w0, w1, col);
+    let high = index_four(w2, w3, col);
+    low + 16 * high
+}
+
+// Eight pixels of four colours.
+fn of_two(w0: u16, flip: bool, head: u32, colors: &[u32]) -> [u32; 8]
+    requires { ⌜ (length (now colors) ≡ 4) × (head < 134742016) ⌝ }
+    ensures { λ r. ⌜ r ≡ tab 8 (λ k. shade (now (colors .entry)) head (pairOf w0 (mirrored k 8 flip))) ⌝ }
+{
+    let mut out = [0; 8];
+    for k in 0..8 {
+        out[k] = shaded(colors, head, two_bits(w0, mirror(k, 8, flip)));
+    }
+    out
+}
+
+// Of 16.
+pub fn of_four(w0: u16, w1: u16, flip: bool, head: u32, colors: &[u32]) -> [u32; 8]
+    requires { ⌜ (length (now colors) ≡ 16) × (head < 134742016) ⌝ }
+    ensures { λ r. ⌜ r ≡ tab 8 (λ k. shade (now (colors .entry)) head (fourOf w0 w1 (mirrored k 8 flip))) ⌝ }
+{
+    let mut out = [0; 8];
+    for k in 0..8 {
+        out[k] = shaded(colors, head, index_four(w0, w1, mirror(k, 8, flip)));
+    }
+    out
+}
+
+// Of 256.
+fn of_eight(w0: u16, w1: u16, w2: u16, w3: u16, flip: bool, head: u32, colors: &[u32]) -> [u32; 8]
+    requires { ⌜ (length (now colors) ≡ 256) × (head < 134742016) ⌝ }
+    ensures { λ r. ⌜ r ≡ tab 8 (λ k. shade (now (colors .entry)) head (eightOf w0 w1 w2 w3 (mirrored k 8 flip))) ⌝ }
+{
+    let mut out = [0; 8];
+    for k in 0..8 {
+        out[k] = shaded(
+            colors,
+            head,
+            index_eight(w0, w1, w2, w3, mirror(k, 8, flip)),
+        );
+    }
+    out
+}
+
+// The packed pixel of a colour index in direct colour.
+fn shaded_direct(palette: u8, head: u32, index: u8) -> u32
+    requires { ⌜ head < 134742016 ⌝ }
+    ensures { λ r. ⌜ r ≡ shadeDirect palette head index ⌝ }
+{
+    pick(index != 0, head + direct_color(index, palette) as u32, 0)
+}
+
+// Of direct colour.
+fn of_direct(w0: u16, w1: u16, w2: u16, w3: u16, flip: bool, head: u32, palette: u8) -> [u32; 8]
+    requires { ⌜ head < 134742016 ⌝ }
+    ensures { λ r. ⌜ r ≡ tab 8 (λ k. shadeDirect palette head (eightOf w0 w1 w2 w3 (mirrored k 8 flip))) ⌝ }
+{
+    let mut out = [0; 8];
+    for k in 0..8 {
+        out[k] = shaded_direct(
+            palette,
+            head,
+            index_eight(w0, w1, w2, w3, mirror(k, 8, flip)),
+        );
+    }
+    out
+}
+
+// The eight pixels of a character row.
+pub fn eight(vram: &[u16], g: &[u32], p: BgParams, direct: bool, t: Character) -> [u32; 8]
+    requires { ⌜ ((length (now g) ≡ 256) × (backgroundOf (p .layer) < 4)) × ((t .row < 8) × (t .palette < 8)) ⌝ }
+    ensures { λ r. ⌜ r ≡ tab 8 (λ k. packedIf (cellIn (now (vram .entry)) (paletteOf (now (g .entry)) p (t .palette)) p (isEight (p .bpp) && direct) t k)) ⌝ }
+{
+    let bpp = p.bpp;
+    let layer = p.layer;
+    let z = t.z;
+    let head = head(bg_index(layer) as u32, z);
+    let colors = palette(g, p, t.palette);
+    let w0 = plane_word(vram, t.base, t.row, 0);
+    match bpp {
+        BitDepth::Two => of_two(w0, t.flip_x, head, colors),
+        BitDepth::Four => {
+            let w1 = plane_word(vram, t.base, t.row, 1);
+            of_four(w0, w1, t.flip_x, head, colors)
+        }
+        BitDepth::Eight => {
+            let w1 = plane_word(vram, t.base, t.row, 1);
+            let w2 = plane_word(vram, t.base, t.row, 2);
+            let w3 = plane_word(vram, t.base, t.row, 3);
+            if direct {
+                return of_direct(w0, w1, w2, w3, t.flip_x, head, t.palette);
+            }
+            of_eight(w0, w1, w2, w3, t.flip_x, head, colors)
+        }
+    }
+}

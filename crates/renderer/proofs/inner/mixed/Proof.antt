@@ -1,0 +1,58 @@
+use borrow.Author.Needs.{needs}
+use denote.Ref.{now}
+use mathlib.Core.Path.{_∙_}
+use Rattle.lists.specs.Tab.{tab, tab-ext}
+use Rattle.packed_row.specs.Screens.{colourOfRow}
+use Rattle.layers.specs.Layers.{scene}
+use Rattle.renderer.proofs.Packed.{bgRow, spriteRow, colour-is}
+use Rattle.renderer.proofs.inner.mixed.Statement.{statement}
+use Rattle.renderer.proofs.inner.mixed.Tie as tie
+
+returns : tie.Need-returns
+returns c =
+    let five = c .before .before .before .before .before .before in
+    let four = five .before .before in
+    let three = four .before .before in
+    let two = three .before .before in
+    let one = two .before .before in
+    let w = one .before .before in
+    let b = w .before in
+    let a = b .before .before .before .before .before .args in
+    let v = now (a .vram) in
+    let o = now (a .oam) in
+    let r = a .r in
+    let y = a .y in
+    let g = w .wide .ensures in
+    let first = one .row .ensures ∙ (λ i. tab 256 (bgRow (scene r v (g i) o) y 0)) in
+    let second = two .row2 .ensures ∙ (λ i. tab 256 (bgRow (scene r v (g i) o) y 1)) in
+    let third = three .row3 .ensures ∙ (λ i. tab 256 (bgRow (scene r v (g i) o) y 2)) in
+    let fourth = four .row4 .ensures ∙ (λ i. tab 256 (bgRow (scene r v (g i) o) y 3)) in
+    let fifth = five .row5 .ensures ∙ (λ i. tab 256 (spriteRow (scene r v (g i) o) y)) in
+    c .colors .ensures
+    ∙ ((λ i. tab 256 (colourOfRow (first i) (second i) (third i) (fourth i) (fifth i) (b .backdrop .ensures i) r))
+    ∙ tab-ext 256 _ _ (λ x h. colour-is (scene r v (now (a .cgram)) o) y x h))
+
+pub mixed-spec : {M : Type 1} → statement M
+mixed-spec =
+    tie.close
+    (tie.spec
+    (λ c. search needs)
+    (λ c κs. search needs)
+    (λ c κs. search needs)
+    (λ c. search needs)
+    (λ c κs. search needs)
+    (λ c. search needs)
+    (λ c κs. search needs)
+    (λ c. search needs)
+    (λ c κs. search needs)
+    (λ c. search needs)
+    (λ c κs. search needs)
+    (λ c. search needs)
+    (λ c κs. search needs)
+    (λ c. search needs)
+    (λ c. search needs)
+    (λ c. search needs)
+    (λ c. search needs)
+    (λ c. search needs)
+    (λ c κs. search needs)
+    returns)
