@@ -9,7 +9,7 @@ use tiles::BitDepth;
 use tiles::inner::mirror;
 ghost use mathlib.Core.Path.{_≡_};
 ghost use mathlib.Core.Bool.{_&&_};
-ghost use Prim.Native.Nat.{_<_, _≤_};
+ghost use Prim.Native.Nat.{_+_, _<_, _≤_};
 ghost use lib.ListN.{length};
 ghost use Rattle.line.specs.Pixels.{backgroundOf};
 ghost use Rattle.bg_map.specs.Source.{extentOf};
@@ -76,7 +76,7 @@ pub fn colors(bpp: BitDepth) -> usize
 }
 
 // Where the colours of background bg's palette n begin.
-pub fn palette_start(bpp: BitDepth, own: bool, bg: usize, n: u8) -> usize
+fn start_of(bpp: BitDepth, own: bool, bg: usize, n: u8) -> usize
     requires { ⌜ (bg < 4) × (n < 8) ⌝ }
     ensures { λ r. ⌜ r ≡ startOf bpp own bg n ⌝ }
 {
@@ -93,14 +93,23 @@ pub fn palette_start(bpp: BitDepth, own: bool, bg: usize, n: u8) -> usize
     }
 }
 
+// Where a tile's colours begin; they end in colour memory.
+pub fn palette_start(p: BgParams, n: u8) -> usize
+    requires { ⌜ (backgroundOf (p .layer) < 4) × (n < 8) ⌝ }
+    ensures { λ r. ⌜ (r ≡ startOf (p .bpp) (p .«own_palettes») (backgroundOf (p .layer)) n) × (r + coloursOf (p .bpp) ≤ 256) ⌝ }
+{
+    let bpp = p.bpp;
+    let layer = p.layer;
+    start_of(bpp, p.own_palettes, bg_index(layer), n)
+}
+
 // A tile's colours, a part of colour memory.
 pub fn palette<'a>(cgram: &'a [u16], p: BgParams, n: u8) -> &'a [u16]
     requires { ⌜ (length (now cgram) ≡ 256) × ((backgroundOf (p .layer) < 4) × (n < 8)) ⌝ }
     ensures { λ r. ⌜ now r ≡ paletteOf (now (cgram .entry)) p n ⌝ }
 {
     let bpp = p.bpp;
-    let layer = p.layer;
-    let start = palette_start(bpp, p.own_palettes, bg_index(layer), n);
+    let start = palette_start(p, n);
     let end = start + colors(bpp);
     &cgram[start..end]
 }

@@ -5,7 +5,7 @@ use mathlib.Core.Bool.{cond}
 use lib.ListN.{getD}
 use Rattle.lists.specs.Tab.{tab}
 use Rattle.registers.specs.declared.PPURegisters.{PPURegisters}
-use Rattle.registers.specs.Coldata.{withColdata}
+use Rattle.registers.specs.Replaced.{withColdata}
 use Rattle.registers.specs.Screen as screen
 use Rattle.window.specs.Window.{masked}
 use Rattle.windows.specs.Windows.{windowOf, colourWindow}

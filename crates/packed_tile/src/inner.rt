@@ -46,8 +46,7 @@ fn palette<'a>(g: &'a [u32], p: BgParams, n: u8) -> &'a [u32]
     ensures { λ r. ⌜ now r ≡ paletteOf (now (g .entry)) p n ⌝ }
 {
     let bpp = p.bpp;
-    let layer = p.layer;
-    let start = palette_start(bpp, p.own_palettes, bg_index(layer), n);
+    let start = palette_start(p, n);
     let end = start + bg_tile::inner::colors(bpp);
     &g[start..end]
 }

@@ -6,7 +6,7 @@ use native.Mathlib.Omega.{arith}
 use native.Mathlib.Numerals.{add-one}
 use lib.ListN.{length}
 use Rattle.registers.specs.declared.PPURegisters.{PPURegisters}
-use Rattle.registers.specs.Counter.{withCounter}
+use Rattle.registers.specs.Replaced.{withCounter}
 use Rattle.registers.specs.Scene.{Scene, scene}
 use Rattle.renderer.specs.Renderer.{rowOf}
 use Rattle.plate.specs.Frame.{counterAfter, counterAt, frameRow, drawnInto}

@@ -6,7 +6,7 @@ use mathlib.Core.List.{List}
 use Rattle.lists.specs.Tab.{tab}
 use Rattle.registers.specs.Bits.{bitOf}
 use Rattle.registers.specs.Screen.{brightnessOf}
-use Rattle.registers.specs.Counter.{withCounter}
+use Rattle.registers.specs.Replaced.{withCounter}
 use Rattle.registers.specs.Scene.{Scene, scene}
 use Rattle.composite.specs.Composite.{colourAt, byteAt, blackRow, rowBytes}
 use Rattle.renderer.specs.Renderer.{linesOf, rowOf}

@@ -6,7 +6,7 @@ use mathlib.Core.List.{List}
 use lib.Dec.{leb, eqb}
 use Rattle.refusal.specs.Answer.{Answer, value, refused}
 use Rattle.registers.specs.declared.PPURegisters.{PPURegisters}
-use Rattle.registers.specs.Counter.{withCounter}
+use Rattle.registers.specs.Replaced.{withCounter}
 use Rattle.registers.specs.Scene.{Scene, scene}
 use Rattle.mosaic.specs.Mosaic.{mosaicSize}
 use Rattle.renderer.specs.Renderer.{rowOf}

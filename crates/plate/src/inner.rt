@@ -11,7 +11,7 @@ ghost use mathlib.Core.Bool.{true};
 ghost use Prim.Native.Nat.{_*_, _≤_};
 ghost use lib.ListN.{length};
 ghost use Rattle.refusal.specs.Verdicts.{verdictMeans};
-ghost use Rattle.registers.specs.Counter.{withCounter};
+ghost use Rattle.registers.specs.Replaced.{withCounter};
 ghost use Rattle.registers.specs.Scene.{scene};
 ghost use Rattle.plate.specs.Frame.{counterAfter, frameRow, SaidOfScene};
 

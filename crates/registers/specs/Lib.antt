@@ -1,6 +1,5 @@
 pub mod Bits
 pub mod Answers
 pub mod Screen
-pub mod Coldata
-pub mod Counter
+pub mod Replaced
 pub mod Scene

@@ -7,7 +7,7 @@ use native.Mathlib.Omega.{arith}
 use lib.ListN.{getD}
 use lib.Dec.{ltb, eqb}
 use Rattle.lists.specs.Each.{getD-map}
-use Rattle.registers.specs.Coldata.{withColdata}
+use Rattle.registers.specs.Replaced.{withColdata}
 use Rattle.windows.specs.Windows.{windowOf}
 use Rattle.colour.specs.Colour.{directColour}
 use Rattle.colour.specs.Bit15.{SameColour, direct-clear}

@@ -5,7 +5,7 @@ use mathlib.Core.Path.{_≡_, refl, sym, _∙_}
 use native.Mathlib.Omega.{arith}
 use lib.ListN.{getD}
 use Rattle.lists.specs.Tab.{getD-tab}
-use Rattle.registers.specs.Coldata.{withColdata}
+use Rattle.registers.specs.Replaced.{withColdata}
 use Rattle.colour.specs.Bit15.{SameColour}
 use Rattle.line.specs.Recoloured.{recolouredLines}
 use Rattle.composite.specs.Composite.{colourAt, rowBytes}

@@ -1,9 +1,9 @@
--- The registers with another mosaic counter.
+-- The registers with another coldata, or with another mosaic counter.
 use Prim.Native.Nat.{ℕ}
 use Rattle.registers.specs.declared.PPURegisters.{PPURegisters}
 
-abbrev pub withCounter : ℕ → PPURegisters → PPURegisters
-withCounter c r = record {
+abbrev replaced : ℕ → ℕ → PPURegisters → PPURegisters
+replaced c n r = record {
   inidisp = r .inidisp;
   objsel = r .objsel;
   oamadd = r .oamadd;
@@ -31,8 +31,14 @@ withCounter c r = record {
   tsw = r .tsw;
   cgwsel = r .cgwsel;
   cgadsub = r .cgadsub;
-  coldata = r .coldata;
+  coldata = c;
   setini = r .setini;
-  «mosaic_vcounter» = c;
+  «mosaic_vcounter» = n;
   field = r .field;
 }
+
+abbrev pub withColdata : ℕ → PPURegisters → PPURegisters
+withColdata c r = replaced c (r .«mosaic_vcounter») r
+
+abbrev pub withCounter : ℕ → PPURegisters → PPURegisters
+withCounter n r = replaced (r .coldata) n r
