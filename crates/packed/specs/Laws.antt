@@ -1,6 +1,6 @@
 -- Packed pixels are laid as pixels are.
-use Prim.Native.Nat.{ℕ, _+_, _*_, _/_, _%_, _<_, _≤_}
-use mathlib.Core.Path.{_≡_, refl, sym, ap, _∙_}
+use Prim.Native.Nat.{ℕ, _+_, _/_, _%_, _<_}
+use mathlib.Core.Path.{_≡_, refl, sym, _∙_}
 use mathlib.Core.Bool.{Bool, true, false, cond, not, _&&_}
 use mathlib.Core.List.{List}
 use native.Mathlib.Omega.{arith}
@@ -12,7 +12,7 @@ use Rattle.line.specs.declared.Layer.{Layer}
 use Rattle.line.specs.declared.Layer.the-variants.{Backdrop, Bg1, Bg2, Bg3, Bg4, Obj}
 use Rattle.line.specs.declared.LinePixel.{LinePixel}
 use Rattle.line.specs.declared.Candidate.{Candidate}
-use Rattle.line.specs.Pixels.{noPixel, none, deposited}
+use Rattle.line.specs.Pixels.{noPixel, deposited}
 use Rattle.laying.specs.Laying.{onScreen, layLine}
 use Rattle.packed.specs.Packed.{codeOf, packed, packedIf, over}
 

@@ -1,8 +1,7 @@
 -- A frame under forced blank.
 use Prim.Native.Nat.{ℕ}
-use mathlib.Core.Path.{_≡_, ap, _∙_}
-use mathlib.Core.Bool.{Bool, true, cond}
-use mathlib.Core.List.{List}
+use mathlib.Core.Path.{_≡_}
+use mathlib.Core.Bool.{cond}
 use Rattle.lists.specs.Tab.{tab}
 use Rattle.registers.specs.Bits.{bitOf}
 use Rattle.registers.specs.Screen.{brightnessOf}

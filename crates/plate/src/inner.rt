@@ -8,7 +8,7 @@ use scene::inner::end_tested;
 use scene::inner::words;
 ghost use mathlib.Core.Path.{_≡_};
 ghost use mathlib.Core.Bool.{true};
-ghost use Prim.Native.Nat.{_*_, _≤_};
+ghost use Prim.Native.Nat.{_*_};
 ghost use lib.ListN.{length};
 ghost use Rattle.refusal.specs.Verdicts.{verdictMeans};
 ghost use Rattle.registers.specs.Replaced.{withCounter};

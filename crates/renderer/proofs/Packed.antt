@@ -1,5 +1,5 @@
 -- The colours of a row that is drawn over packed pixels are those of its lines, in their low 16 bits.
-use Prim.Native.Nat.{ℕ, _%_, _<_}
+use Prim.Native.Nat.{ℕ, _<_}
 use mathlib.Core.Path.{_≡_, refl, sym, ap, _∙_}
 use mathlib.Core.Bool.{Bool, true, false, cond, not, _&&_, _||_}
 use mathlib.Core.List.{List}
@@ -8,7 +8,6 @@ use lib.ListN.{getD}
 use Rattle.lists.specs.Tab.{tab, getD-tab}
 use Rattle.registers.specs.declared.PPURegisters.{PPURegisters}
 use Rattle.registers.specs.Bits.{bitOf}
-use Rattle.window.specs.declared.Window.{Window}
 use Rattle.window.specs.Window.{masked}
 use Rattle.windows.specs.Windows.{bgWindow, spriteWindow, colourWindow}
 use Rattle.line.specs.declared.LinePixel.{LinePixel}

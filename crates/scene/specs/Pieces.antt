@@ -1,6 +1,6 @@
 -- The tests of a scene file that is read section by section, piece by piece: first the bytes of a count that there were, at most
 -- four, then those of a body, and last at most one byte more. They say what the reader says of the whole file.
-use Prim.Native.Nat.{ℕ, _+_, _*_, _-_, _<_, _≤_}
+use Prim.Native.Nat.{ℕ, _+_, _*_, _-_, _<_}
 use mathlib.Core.Path.{_≡_, refl, sym, ap, _∙_}
 use mathlib.Core.Bool.{Bool, true, false}
 use mathlib.Core.List.{List, [], _∷_}

@@ -2,10 +2,9 @@ use borrow.Author.Needs.{needs}
 use denote.Ref.{now}
 use Prim.Native.Nat.{ℕ, _<_}
 use mathlib.Core.Path.{_≡_, sym, _∙_}
-use mathlib.Core.Bool.{Bool, false, cond}
-use mathlib.Core.List.{List}
+use mathlib.Core.Bool.{Bool, false}
 use lib.ListN.{getD}
-use Rattle.lists.specs.Tab.{tab, tab-ext, getD-tab}
+use Rattle.lists.specs.Tab.{tab-ext, getD-tab}
 use Rattle.blend.specs.declared.ColorMath.{ColorMath}
 use Rattle.blend.specs.Blend.{settingsOf, region}
 use Rattle.packed_composite.specs.Blended.{blended, mixedAt}

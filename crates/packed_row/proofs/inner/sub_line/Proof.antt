@@ -1,10 +1,9 @@
 use borrow.Author.Needs.{needs}
 use denote.Ref.{now}
 use Prim.Native.Nat.{ℕ}
-use mathlib.Core.Path.{_≡_, refl, sym, _∙_}
+use mathlib.Core.Path.{refl, sym, _∙_}
 use mathlib.Core.Bool.{Bool, cond}
 use Rattle.lists.specs.Tab.{tab, tab-same}
-use Rattle.registers.specs.Bits.{bitOf}
 use Rattle.line.specs.Pixels.{backdropOf}
 use Rattle.packed.specs.Packed.{packed}
 use Rattle.packed_row.specs.Screens.{screenAt}

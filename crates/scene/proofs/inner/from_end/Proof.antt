@@ -1,7 +1,6 @@
 use denote.Ref.{now}
-use Rattle.refusal.specs.Verdicts.{passed, by-verdict}
+use Rattle.refusal.specs.Verdicts.{by-verdict}
 use mathlib.Core.Path.{_∙_, sym, ap}
-use Prim.Native.Nat.{ℕ}
 use lib.ListN.{length-drop}
 use Rattle.scene.specs.File.{endTests}
 use borrow.Author.Needs.{needs}
