@@ -10,6 +10,7 @@ mod frame;
 mod generator;
 mod kinds;
 mod oam;
+mod often;
 mod outside;
 mod pictured;
 mod port;
@@ -31,8 +32,16 @@ const USAGE: &str = "usage: oracle colour | tiles | registers | oam | outside
        oracle scene KIND SEED    a scene of a kind: uniform, sprites, windows, math, mosaic, direct,
                                  interlace, blank, picture
        oracle frame              what the frame program writes for the scene on standard input
+       oracle often              what draw_often writes for the count and the scene on standard input
        oracle compare FOLDER SCENES SEED
        oracle damage FOLDER SEED";
+
+/// All of the standard input.
+fn given() -> Result<Vec<u8>, String> {
+    let mut bytes = Vec::new();
+    let read = io::stdin().read_to_end(&mut bytes);
+    read.map(|_| bytes).map_err(|e| e.to_string())
+}
 
 /// What a command writes. None for words that are no command, a failure's text for one that failed.
 fn answer(words: &[&str]) -> Option<Result<Vec<u8>, String>> {
@@ -46,13 +55,10 @@ fn answer(words: &[&str]) -> Option<Result<Vec<u8>, String>> {
             let scene = kinds::scene(kinds::named(kind)?, seed.parse().ok()?);
             return Some(Ok(scene.bytes()));
         }
-        ["frame"] => {
-            let mut bytes = Vec::new();
-            let read = io::stdin().read_to_end(&mut bytes);
-            return Some(
-                read.map(|_| frame::answer(&bytes))
-                    .map_err(|e| e.to_string()),
-            );
+        ["frame"] => return Some(given().map(|bytes| frame::answer(&bytes))),
+        ["often"] => {
+            let digest = given().and_then(|bytes| often::digest(&bytes));
+            return Some(digest.map(String::into_bytes));
         }
         ["compare", folder, scenes, seed] => {
             let scenes: NonZero<u32> = scenes.parse().ok()?;
