@@ -5,7 +5,7 @@ use registers::constants::SCREEN_HEIGHT;
 use scene::inner::body_tested;
 use scene::inner::count_tested;
 use scene::inner::end_tested;
-use scene::inner::words;
+use scene_bytes::inner::words;
 ghost use mathlib.Core.Path.{_≡_};
 ghost use mathlib.Core.Bool.{true};
 ghost use Prim.Native.Nat.{_*_};

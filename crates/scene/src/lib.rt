@@ -8,6 +8,9 @@ use refusal::Refusal;
 use refusal::Verdict;
 use registers::PPURegisters;
 use registers::constants::COLOUR_WORDS;
+use scene_bytes::inner::copy;
+use scene_bytes::inner::registers;
+use scene_bytes::inner::words;
 use tiles::inner::VRAM_WORDS;
 ghost use mathlib.Core.Path.{_≡_};
 ghost use Prim.Native.Nat.{_≤_};
@@ -48,10 +51,10 @@ pub fn read_scene(vram: &mut [u16], cgram: &mut [u16], oam: &mut [u8], scene: &[
 {
     match tested(vram.len(), cgram.len(), oam.len(), scene) {
         Verdict::Fine => {
-            inner::words(vram, &scene[1120..66656]);
-            inner::words(cgram, &scene[604..1116]);
-            inner::copy(oam, &scene[56..600]);
-            let registers = inner::registers(&scene[4..52]);
+            words(vram, &scene[1120..66656]);
+            words(cgram, &scene[604..1116]);
+            copy(oam, &scene[56..600]);
+            let registers = registers(&scene[4..52]);
             SceneAnswer {
                 verdict: Verdict::Fine,
                 registers,

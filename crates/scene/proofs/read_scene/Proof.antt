@@ -7,7 +7,8 @@ use borrow.Rule.Slice.PartAt.{part-count}
 use Rattle.refusal.specs.Verdicts.{passed, by-fine, by-refusal}
 use Rattle.registers.specs.Scene.{scene}
 use Rattle.registers.specs.Screen.{cleared}
-use Rattle.scene.specs.File.{wordsOf, bodyAt, sceneOf}
+use Rattle.scene_bytes.specs.Bytes.{wordsOf}
+use Rattle.scene.specs.File.{bodyAt, sceneOf}
 use borrow.Author.Needs.{needs}
 use Rattle.scene.proofs.read_scene.Statement.{statement}
 use Rattle.scene.proofs.read_scene.Tie as tie

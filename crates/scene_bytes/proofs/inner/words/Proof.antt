@@ -1,15 +1,15 @@
 use borrow.Author.Needs.{needs}
-use Prim.Native.Nat.{_-_}
-use mathlib.Core.Path.{refl, sym, _∙_}
+use Prim.Native.Nat.{_*_, _-_}
+use mathlib.Core.Path.{refl}
 use native.Mathlib.Omega.{arith}
-use lib.ListN.{length, getD}
-use Rattle.lists.specs.Tab.{by-getD}
+use lib.ListN.{length}
+use Rattle.scene_bytes.specs.Bytes.{wordAt, wordsOf}
 use Rattle.lists.specs.Filling.{Front, front-none, front-more, front-all}
-use Rattle.scene.proofs.inner.copy.Statement.{statement}
-use Rattle.scene.proofs.inner.copy.Tie as tie
+use Rattle.scene_bytes.proofs.inner.words.Statement.{statement}
+use Rattle.scene_bytes.proofs.inner.words.Tie as tie
 
 abbrev Inv-loop : tie.InvT-loop
-Inv-loop out₀ b i₀ i-end out i = Front (length out₀) (λ k. getD b k 0) out i
+Inv-loop out₀ b i₀ i-end out i = Front (length out₀) (λ k. wordAt b (k * 2)) out i
 
 abbrev μ-loop : tie.MeasureT-loop
 μ-loop out₀ b i₀ i-end out i = length out₀ - i
@@ -17,8 +17,8 @@ abbrev μ-loop : tie.MeasureT-loop
 loop-holds : tie.Need-loop-holds Inv-loop μ-loop
 loop-holds c = front-none refl
 
-shared-slice-read-out : tie.Need-shared-slice-read-out Inv-loop μ-loop
-shared-slice-read-out c = omega arith
+word-at-requires : tie.Need-word-at-requires Inv-loop μ-loop
+word-at-requires c κs = omega arith
 
 slice-write-out : tie.Need-slice-write-out Inv-loop μ-loop
 slice-write-out c = omega arith
@@ -27,24 +27,25 @@ loop-less : tie.Need-loop-less Inv-loop μ-loop
 loop-less c = omega arith
 
 loop-again : tie.Need-loop-again Inv-loop μ-loop
-loop-again c = front-more (c .before .before .loop .inv) (c .before .loop-test .taken) _ refl
+loop-again c = front-more (c .before .before .loop .inv) (c .before .loop-test .taken) _ (c .word-at .ensures)
 
 same-length : tie.Need-same-length Inv-loop μ-loop
 same-length c = c .before .loop .inv .long
 
 returns : tie.Need-returns Inv-loop μ-loop
-returns c = let s = c .before .before in
-    front-all (c .before .loop .inv) (c .loop-test .left)
-    ∙ sym (by-getD _ _ _ 0 (s .pre) (λ x h. refl))
+unfolding wordsOf
+returns c = front-all (c .before .loop .inv) (c .loop-test .left)
 
-pub copy-spec : {M : Type 1} → statement M
-copy-spec =
+pub words-spec : {M : Type 1} → statement M
+words-spec =
     tie.close
     (tie.spec
     Inv-loop
     μ-loop
     loop-holds
-    shared-slice-read-out
+    (λ c. search needs)
+    word-at-requires
+    (λ c. search needs)
     slice-write-out
     (λ c. search needs)
     loop-less

@@ -3,8 +3,8 @@ use lib.ListN.{getD}
 use lib.Dec.{eqb}
 use denote.Ref.{now}
 use borrow.Author.Needs.{needs}
-use Rattle.scene.proofs.inner.registers.Statement.{statement}
-use Rattle.scene.proofs.inner.registers.Tie as tie
+use Rattle.scene_bytes.proofs.inner.registers.Statement.{statement}
+use Rattle.scene_bytes.proofs.inner.registers.Tie as tie
 
 returns : tie.Need-returns
 returns c =
