@@ -9,7 +9,6 @@ use packed::inner::pick;
 use tiles::BitDepth;
 use tiles::inner::mirror;
 use tiles::inner::plane_word;
-use tiles::inner::two_bits;
 ghost use mathlib.Core.Path.{_≡_};
 ghost use mathlib.Core.Bool.{_&&_};
 ghost use Prim.Native.Nat.{_<_};
@@ -52,7 +51,7 @@ fn palette<'a>(g: &'a [u32], p: BgParams, n: u8) -> &'a [u32]
 }
 
 // The packed pixel of a colour index, under its head.
-fn shaded(colors: &[u32], head: u32, index: u8) -> u32
+fn shaded(colors: &[u32], head: u32, index: u32) -> u32
     requires { ⌜ (index < length (now colors)) × (head < 134742016) ⌝ }
     ensures { λ r. ⌜ r ≡ shade (now (colors .entry)) head index ⌝ }
 {
@@ -60,8 +59,18 @@ fn shaded(colors: &[u32], head: u32, index: u8) -> u32
     pick(index != 0, head + colors[at] % 65536, 0)
 }
 
+// The two bits of a column in a plane pair's word, as `tiles` has them, in the wide words of a pixel:
+// eight columns are then found at once.
+fn two_bits(word: u16, col: u32) -> u32
+    requires { ⌜ col < 8 ⌝ }
+    ensures { λ r. ⌜ (r ≡ pairOf word col) × (r < 4) ⌝ }
+{
+    let w = word as u32;
+    (w >> (7 - col)) % 2 + (w >> (15 - col)) % 2 * 2
+}
+
 // The colour index of a column in the words of two plane pairs.
-fn index_four(w0: u16, w1: u16, col: usize) -> u8
+fn index_four(w0: u16, w1: u16, col: u32) -> u32
     requires { ⌜ col < 8 ⌝ }
     ensures { λ r. ⌜ (r ≡ fourOf w0 w1 col) × (r < 16) ⌝ }
 {
@@ -71,7 +80,7 @@ fn index_four(w0: u16, w1: u16, col: usize) -> u8
 }
 
 // And in those of four.
-fn index_eight(w0: u16, w1: u16, w2: u16, w3: u16, col: usize) -> u8
+fn index_eight(w0: u16, w1: u16, w2: u16, w3: u16, col: u32) -> u32
     requires { ⌜ col < 8 ⌝ }
     ensures { λ r. ⌜ (r ≡ eightOf w0 w1 w2 w3 col) × (r < 256) ⌝ }
 {
@@ -80,14 +89,27 @@ fn index_eight(w0: u16, w1: u16, w2: u16, w3: u16, col: usize) -> u8
     low + 16 * high
 }
 
+// The columns of a character row in the order in which they are shown. They are found before the
+// pixels, so that the pixels' loop asks nothing of the flip.
+fn turned(flip: bool) -> [u32; 8]
+    ensures { λ r. ⌜ r ≡ tab 8 (λ k. mirrored k 8 flip) ⌝ }
+{
+    let mut out = [0; 8];
+    for k in 0..8 {
+        out[k] = mirror(k, 8, flip) as u32;
+    }
+    out
+}
+
 // Eight pixels of four colours.
 fn of_two(w0: u16, flip: bool, head: u32, colors: &[u32]) -> [u32; 8]
     requires { ⌜ (length (now colors) ≡ 4) × (head < 134742016) ⌝ }
     ensures { λ r. ⌜ r ≡ tab 8 (λ k. shade (now (colors .entry)) head (pairOf w0 (mirrored k 8 flip))) ⌝ }
 {
+    let cols = turned(flip);
     let mut out = [0; 8];
     for k in 0..8 {
-        out[k] = shaded(colors, head, two_bits(w0, mirror(k, 8, flip)));
+        out[k] = shaded(colors, head, two_bits(w0, cols[k]));
     }
     out
 }
@@ -97,9 +119,10 @@ pub fn of_four(w0: u16, w1: u16, flip: bool, head: u32, colors: &[u32]) -> [u32;
     requires { ⌜ (length (now colors) ≡ 16) × (head < 134742016) ⌝ }
     ensures { λ r. ⌜ r ≡ tab 8 (λ k. shade (now (colors .entry)) head (fourOf w0 w1 (mirrored k 8 flip))) ⌝ }
 {
+    let cols = turned(flip);
     let mut out = [0; 8];
     for k in 0..8 {
-        out[k] = shaded(colors, head, index_four(w0, w1, mirror(k, 8, flip)));
+        out[k] = shaded(colors, head, index_four(w0, w1, cols[k]));
     }
     out
 }
@@ -109,23 +132,24 @@ fn of_eight(w0: u16, w1: u16, w2: u16, w3: u16, flip: bool, head: u32, colors: &
     requires { ⌜ (length (now colors) ≡ 256) × (head < 134742016) ⌝ }
     ensures { λ r. ⌜ r ≡ tab 8 (λ k. shade (now (colors .entry)) head (eightOf w0 w1 w2 w3 (mirrored k 8 flip))) ⌝ }
 {
+    let cols = turned(flip);
     let mut out = [0; 8];
     for k in 0..8 {
-        out[k] = shaded(
-            colors,
-            head,
-            index_eight(w0, w1, w2, w3, mirror(k, 8, flip)),
-        );
+        out[k] = shaded(colors, head, index_eight(w0, w1, w2, w3, cols[k]));
     }
     out
 }
 
 // The packed pixel of a colour index in direct colour.
-fn shaded_direct(palette: u8, head: u32, index: u8) -> u32
-    requires { ⌜ head < 134742016 ⌝ }
+fn shaded_direct(palette: u8, head: u32, index: u32) -> u32
+    requires { ⌜ (index < 256) × (head < 134742016) ⌝ }
     ensures { λ r. ⌜ r ≡ shadeDirect palette head index ⌝ }
 {
-    pick(index != 0, head + direct_color(index, palette) as u32, 0)
+    pick(
+        index != 0,
+        head + direct_color(index as u8, palette) as u32,
+        0,
+    )
 }
 
 // Of direct colour.
@@ -133,13 +157,10 @@ fn of_direct(w0: u16, w1: u16, w2: u16, w3: u16, flip: bool, head: u32, palette:
     requires { ⌜ head < 134742016 ⌝ }
     ensures { λ r. ⌜ r ≡ tab 8 (λ k. shadeDirect palette head (eightOf w0 w1 w2 w3 (mirrored k 8 flip))) ⌝ }
 {
+    let cols = turned(flip);
     let mut out = [0; 8];
     for k in 0..8 {
-        out[k] = shaded_direct(
-            palette,
-            head,
-            index_eight(w0, w1, w2, w3, mirror(k, 8, flip)),
-        );
+        out[k] = shaded_direct(palette, head, index_eight(w0, w1, w2, w3, cols[k]));
     }
     out
 }

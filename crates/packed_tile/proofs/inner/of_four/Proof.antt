@@ -5,25 +5,30 @@ use Prim.Native.Nat.{_-_}
 use Rattle.lists.specs.Filling.{Front, front-none, front-more, front-all}
 use Rattle.tiles.specs.Tiles.{mirrored}
 use Rattle.packed_tile.specs.Shades.{fourOf, shade}
+use Rattle.packed_tile.proofs.Order.{column-is, column-small}
 use Rattle.packed_tile.proofs.inner.of_four.Statement.{statement}
 use Rattle.packed_tile.proofs.inner.of_four.Tie as tie
 
 abbrev Inv-loop : tie.InvT-loop
-Inv-loop w0 w1 flip head colors out₀ k₀ out k = Front 8 (λ j. shade colors head (fourOf w0 w1 (mirrored j 8 flip))) out k
+Inv-loop w0 w1 flip head colors cols out₀ k₀ out k = Front 8 (λ j. shade colors head (fourOf w0 w1 (mirrored j 8 flip))) out k
 
 abbrev μ-loop : tie.MeasureT-loop
-μ-loop w0 w1 flip head colors out₀ k₀ out k = 8 - k
+μ-loop w0 w1 flip head colors cols out₀ k₀ out k = 8 - k
 
 loop-holds : tie.Need-loop-holds Inv-loop μ-loop
 loop-holds c = front-none (search needs)
 
+index-four-requires : tie.Need-index-four-requires Inv-loop μ-loop
+index-four-requires c κs = let t = c .before .before in column-small _ (t .before .before .args .flip) (t .turned .ensures) _ (c .loop-test .taken)
+
 loop-again : tie.Need-loop-again Inv-loop μ-loop
 loop-again c =
     let b = c .before in
-    let m = b .before in
-    let l = m .before in
-    let a = l .before .before .before .args in
-    let is = c .shaded .ensures ∙ (λ i. shade (now (a .colors)) (a .head) ((b .index-four .ensures .0 ∙ (λ j. fourOf (a .w0) (a .w1) (m .mirror .ensures .0 j))) i)) in
+    let l = b .before in
+    let t = l .before .before in
+    let a = t .before .before .args in
+    let at = column-is _ (a .flip) (t .turned .ensures) _ (l .loop-test .taken) in
+    let is = c .shaded .ensures ∙ (λ i. shade (now (a .colors)) (a .head) ((b .index-four .ensures .0 ∙ (λ j. fourOf (a .w0) (a .w1) (at j))) i)) in
     front-more (l .before .loop .inv) (l .loop-test .taken) _ is
 
 returns : tie.Need-returns Inv-loop μ-loop
@@ -35,9 +40,11 @@ of-four-spec =
     (tie.spec
     Inv-loop
     μ-loop
+    (λ c κs. search needs)
     loop-holds
-    (λ c κs. search needs)
-    (λ c κs. search needs)
+    (λ c. search needs)
+    (λ c. search needs)
+    index-four-requires
     (λ c κs. search needs)
     (λ c. search needs)
     (λ c. search needs)

@@ -17,6 +17,7 @@ pub shaded-direct-spec : {M : Type 1} → statement M
 shaded-direct-spec =
     tie.close
     (tie.spec
+    (λ c. search needs)
     (λ c κs. search needs)
     (λ c. search needs)
     (λ c. search needs)
