@@ -1,57 +1,65 @@
 use borrow.Author.Needs.{needs}
 use denote.Ref.{now}
-use Prim.Native.Nat.{ℕ, _+_, _-_, _%_, _<_, _≤_}
-use mathlib.Core.Path.{_≡_, sym, ap, subst, _∙_}
+use Prim.Native.Nat.{ℕ, _+_, _-_, _%_, _<_, _≤_, min}
+use mathlib.Core.Path.{_≡_, sym, ap, _∙_}
 use native.Mathlib.Omega.{arith}
+use native.Mathlib.Nat.{add-mod-right}
 use lib.ListN.{getD}
-use Rattle.lists.specs.Filling.{Front, front-none, front-more, front-at, front-all}
-use Rattle.bg_row.proofs.Spread.{block-start, first-start, next-start}
+use Rattle.lists.specs.Filling.{Front, front-none, front-at}
+use Rattle.bg_row.proofs.Spread.{block-start, first-start}
+use Rattle.packed_bg.proofs.Laid.{laid-more, front-part}
 use Rattle.packed_bg.proofs.inner.blocks.Statement.{statement}
 use Rattle.packed_bg.proofs.inner.blocks.Tie as tie
 
 abbrev Inv-loop2 : tie.InvT-loop2
-Inv-loop2 cells fine block out₀ start c end x₀ out x = Front 256 (λ k. getD cells (k - k % block + fine) 0) out x × ((start ≤ x) × (x ≤ end))
+Inv-loop2 cells fine block line₀ start c k₀ line k = Front 272 (λ x. getD cells (x - x % block + fine) 0) line (start + min k block) × (k ≤ 16)
 
 abbrev μ-loop2 : tie.MeasureT-loop2
-μ-loop2 cells fine block out₀ start c end x₀ out x = end - x
+μ-loop2 cells fine block line₀ start c k₀ line k = 16 - k
 
 abbrev Inv-loop : tie.InvT-loop
-Inv-loop cells fine block out₀ start₀ out start = Front 256 (λ k. getD cells (k - k % block + fine) 0) out start × ((start < 256) → start % block ≡ 0)
+Inv-loop cells fine block line₀ start₀ line start = Front 272 (λ x. getD cells (x - x % block + fine) 0) line start × (start % block ≡ 0)
 
 abbrev μ-loop : tie.MeasureT-loop
-μ-loop cells fine block out₀ start₀ out start = 256 - start
+μ-loop cells fine block line₀ start₀ line start = 256 - start
 
 loop-holds : tie.Need-loop-holds Inv-loop2 μ-loop2 Inv-loop μ-loop
-loop-holds c = (front-none (search needs), λ h. first-start _)
+loop-holds c = (front-none (search needs), first-start _)
+
+loop2-holds : tie.Need-loop2-holds Inv-loop2 μ-loop2 Inv-loop μ-loop
+loop2-holds c =
+    let o = c .before .before .loop in
+    let b = c .before .before .before .args .block in
+    let e : o .start ≡ o .start + min 0 b = omega arith in
+    (front-at e (o .inv .0), omega arith)
 
 loop2-again : tie.Need-loop2-again Inv-loop2 μ-loop2 Inv-loop μ-loop
 loop2-again c =
     let l = c .before .loop2 in
-    let e = c .before .before in
-    let i = e .before .before in
+    let i = c .before .before .before in
     let o = i .before .loop in
-    let a = i .before .before .before .args in
+    let a = i .before .before .args in
     let s = o .start in
     let b = a .block in
-    let m = e .least .ensures in
     let h = c .loop2-test .taken in
-    let k : l .x < s + b = omega (arith, m, h) in
-    let n : l .x < 256 = omega (arith, m, h) in
-    (front-more (l .inv .0) n _ (ap (λ (j : ℕ). getD (now (a .cells)) (j + a .fine) 0) (sym (block-start b s (l .x) (o .inv .1 (i .loop-test .taken)) (l .inv .1 .0) k))), (omega (arith, l .inv .1 .0), omega (arith, h)))
+    let n : s + l .k < 272 = omega (arith, h, i .loop-test .taken) in (
+      laid-more s b (l .k) _ (l .inv .0) n
+          (λ k. ap (λ (j : ℕ). getD (now (a .cells)) (j + a .fine) 0) (sym (block-start b s (s + l .k) (o .inv .1) (omega arith) (omega (arith, k))))),
+      omega (arith, h),
+    )
 
 loop-again : tie.Need-loop-again Inv-loop2 μ-loop2 Inv-loop μ-loop
 loop-again c =
     let l = c .before .loop2 in
-    let e = c .before .before in
-    let i = e .before .before in
+    let i = c .before .before .before in
     let o = i .before .loop in
-    let a = i .before .before .before .args in
-    let m = e .least .ensures in
-    let x : l .x ≡ e .least .result = omega (arith, l .inv .1 .1, c .loop2-test .left) in
-    (front-at x (l .inv .0), λ h. ap (λ (n : ℕ). n % a .block) m ∙ next-start (a .block) (o .start) (o .inv .1 (i .loop-test .taken)) (subst (λ (n : ℕ). n < 256) m h))
+    let s = i .before .before in
+    let b = s .args .block in
+    let e : o .start + min (l .k) b ≡ o .start + b = omega (arith, l .inv .1, c .loop2-test .left, s .pre .1 .1 .1) in
+    (front-at e (l .inv .0), add-mod-right (o .start) b ∙ o .inv .1)
 
 returns : tie.Need-returns Inv-loop2 μ-loop2 Inv-loop μ-loop
-returns c = front-all (c .before .loop .inv .0) (c .loop-test .left)
+returns c = front-part (c .before .loop .inv .0) 256 (c .loop-test .left)
 
 pub blocks-spec : {M : Type 1} → statement M
 blocks-spec =
@@ -65,14 +73,14 @@ blocks-spec =
     (λ c. search needs)
     (λ c. search needs)
     (λ c. search needs)
-    (λ c. search needs)
-    (λ c κs. search needs)
+    loop2-holds
     (λ c. search needs)
     (λ c. search needs)
     (λ c. search needs)
     (λ c. search needs)
     (λ c. search needs)
     loop2-again
+    (λ c. search needs)
     (λ c. search needs)
     loop-again
     returns)

@@ -18,18 +18,18 @@ use Rattle.packed_bg.proofs.inner.cells.Statement.{statement}
 use Rattle.packed_bg.proofs.inner.cells.Tie as tie
 
 abbrev Inv-loop2 : tie.InvT-loop2
-Inv-loop2 vram g p direct py first width map-row out₀ j pixels k₀ out k =
+Inv-loop2 out₀ vram g p direct py first width map-row j pixels k₀ out k =
     Front 264 (λ i. packedIf (cellAt vram g p direct py i)) out (j * 8 + k) × (k ≤ 8)
 
 abbrev μ-loop2 : tie.MeasureT-loop2
-μ-loop2 vram g p direct py first width map-row out₀ j pixels k₀ out k = 8 - k
+μ-loop2 out₀ vram g p direct py first width map-row j pixels k₀ out k = 8 - k
 
 abbrev Inv-loop : tie.InvT-loop
-Inv-loop vram g p direct py first width map-row out₀ j₀ out j =
+Inv-loop out₀ vram g p direct py first width map-row j₀ out j =
     Front 264 (λ i. packedIf (cellAt vram g p direct py i)) out (j * 8) × (j ≤ 33)
 
 abbrev μ-loop : tie.MeasureT-loop
-μ-loop vram g p direct py first width map-row out₀ j₀ out j = 33 - j
+μ-loop out₀ vram g p direct py first width map-row j₀ out j = 33 - j
 
 loop-holds : tie.Need-loop-holds Inv-loop2 μ-loop2 Inv-loop μ-loop
 loop-holds c = (front-none (search needs), omega arith)
@@ -38,13 +38,13 @@ character-requires : tie.Need-character-requires Inv-loop2 μ-loop2 Inv-loop μ-
 character-requires c κs =
     let m = c .before .before in
     let w = m .before in
-    let a = w .before .before .before .before .args in
+    let a = w .before .before .before .before .before .args in
     (m .map-row .ensures, subst (λ (n : ℕ). (a .p .«scroll_x» / 8 * 8 + c .before .loop .j * 8) % w .extent .result < n) (w .extent .ensures .0) (mod-lt _ (w .extent .ensures .1 .0)))
 
 eight-requires : tie.Need-eight-requires Inv-loop2 μ-loop2 Inv-loop μ-loop
 eight-requires c κs =
-    let s = c .before .before .before .before .before .before .before .before in
-    ((s .pre .0, s .pre .1 .0), c .character .ensures .1)
+    let s = c .before .before .before .before .before .before .before .before .before in
+    ((s .pre .1 .0, s .pre .1 .1 .0), c .character .ensures .1)
 
 loop2-holds : tie.Need-loop2-holds Inv-loop2 μ-loop2 Inv-loop μ-loop
 loop2-holds c = let l = c .before .before .before .loop in (simp add-zero (l .inv .0), omega arith)
@@ -56,7 +56,7 @@ loop2-again c =
     let t = q .before in
     let o = t .before in
     let w = o .before .before .before in
-    let a = w .before .before .before .before .args in
+    let a = w .before .before .before .before .before .args in
     let v = now (a .vram) in
     let g = now (a .g) in
     let p = a .p in
@@ -116,4 +116,5 @@ cells-spec =
     (λ c. search needs)
     (λ c. search needs)
     loop-again
+    (λ c. search needs)
     returns)

@@ -10,8 +10,23 @@ use Rattle.packed_bg.proofs.inner.columns.Tie as tie
 
 returns : tie.Need-returns
 returns c =
-    let a = c .before .before .before .args in
-    c .shifted .ensures ∙ tab-ext 256 _ _ (λ x h. ap (λ (n : ℕ). getD (now (a .cells)) (n + a .fine) 0) (alone (a .block) x (c .before .if1 .taken)))
+    let b = c .before .before in
+    let t = b .before .before in
+    let a = t .before .before .before .args in
+    b .shifted .ensures ∙ tab-ext 256 _ _ (λ x h. ap (λ (n : ℕ). getD (now (a .cells)) (n + a .fine) 0) (alone (a .block) x (t .if1 .taken)))
+
+returns-2 : tie.Need-returns-2
+returns-2 c = let f = c .before .before in f .firsts .ensures ∙ f .before .before .before .blocks2 .ensures
 
 pub columns-spec : {M : Type 1} → statement M
-columns-spec = tie.close (tie.spec (λ c κs. search needs) returns (λ c κs. search needs) (λ c. search needs))
+columns-spec =
+    tie.close
+    (tie.spec
+    (λ c κs. search needs)
+    (λ c. search needs)
+    returns
+    (λ c κs. search needs)
+    (λ c. search needs)
+    (λ c κs. search needs)
+    (λ c. search needs)
+    returns-2)

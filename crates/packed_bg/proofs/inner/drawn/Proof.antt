@@ -15,16 +15,17 @@ use Rattle.packed_bg.proofs.inner.drawn.Tie as tie
 
 returns : tie.Need-returns
 returns c =
-    let b = c .before .before .before in
-    let d = b .before in
-    let s = d .before .before in
-    let a = s .before .before .before .args in
+    let k = c .before .before in
+    let b = k .before .before .before .before in
+    let d = b .before .before in
+    let s = d .before .before .before in
+    let a = s .before .before .before .before .args in
     let v = now (a .vram) in
     let g = now (a .g) in
     let p = a .p in
     let fine = p .«scroll_x» % 8 in
     let size = blockIf (p .mosaic) (a .r) in
-    c .columns .ensures
+    k .columns .ensures
     ∙ tab-ext 256 _ _
     (λ x h. (λ i. getD (d .cells .ensures i) (x - x % b .block .ensures .0 i + fine) 0)
     ∙ (getD-tab (λ (n : ℕ). packedIf (cellAt v g p (d .before .direct-color .result) (s .source-line .result) n)) 264 (x - x % size + fine) 0 (within-cells size x fine h (omega arith))
@@ -36,6 +37,7 @@ drawn-spec =
     tie.close
     (tie.spec
     (λ c κs. search needs)
+    (λ c. search needs)
     (λ c κs. search needs)
     (λ c κs. search needs)
     (λ c κs. search needs)
@@ -43,4 +45,5 @@ drawn-spec =
     (λ c. search needs)
     (λ c. search needs)
     (λ c κs. search needs)
+    (λ c. search needs)
     returns)

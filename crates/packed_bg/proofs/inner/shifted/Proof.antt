@@ -7,13 +7,13 @@ use Rattle.packed_bg.proofs.inner.shifted.Statement.{statement}
 use Rattle.packed_bg.proofs.inner.shifted.Tie as tie
 
 abbrev Inv-loop : tie.InvT-loop
-Inv-loop cells fine out₀ x₀ out x = Front 256 (λ k. getD cells (k + fine) 0) out x
+Inv-loop out₀ cells fine x₀ out x = Front 256 (λ k. getD cells (k + fine) 0) out x
 
 abbrev μ-loop : tie.MeasureT-loop
-μ-loop cells fine out₀ x₀ out x = 256 - x
+μ-loop out₀ cells fine x₀ out x = 256 - x
 
 loop-holds : tie.Need-loop-holds Inv-loop μ-loop
-loop-holds c = front-none (search needs)
+loop-holds c = front-none (c .pre .0)
 
 loop-again : tie.Need-loop-again Inv-loop μ-loop
 loop-again c = let l = c .before in front-more (l .before .loop .inv) (l .loop-test .taken) _ refl
@@ -36,4 +36,5 @@ shifted-spec =
     (λ c. search needs)
     (λ c. search needs)
     loop-again
+    (λ c. search needs)
     returns)

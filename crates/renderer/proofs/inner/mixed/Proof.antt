@@ -1,21 +1,33 @@
 use borrow.Author.Needs.{needs}
 use denote.Ref.{now}
-use mathlib.Core.Path.{_∙_}
-use Rattle.lists.specs.Tab.{tab, tab-ext}
+use mathlib.Core.Path.{refl, _∙_}
+use Rattle.lists.specs.Tab.{tab, tab-ext, tab-same}
 use Rattle.packed_row.specs.Screens.{colourOfRow}
 use Rattle.layers.specs.Layers.{scene}
 use Rattle.renderer.proofs.Packed.{bgRow, spriteRow, colour-is}
 use Rattle.renderer.proofs.inner.mixed.Statement.{statement}
 use Rattle.renderer.proofs.inner.mixed.Tie as tie
 
+row-requires : tie.Need-row-requires
+row-requires c κs = (tab-same 256 refl, search needs)
+
+row-requires-2 : tie.Need-row-requires-2
+row-requires-2 c κs = (tab-same 256 refl, search needs)
+
+row-requires-3 : tie.Need-row-requires-3
+row-requires-3 c κs = (tab-same 256 refl, search needs)
+
+row-requires-4 : tie.Need-row-requires-4
+row-requires-4 c κs = (tab-same 256 refl, search needs)
+
 returns : tie.Need-returns
 returns c =
     let five = c .before .before .before .before .before .before in
-    let four = five .before .before in
-    let three = four .before .before in
-    let two = three .before .before in
-    let one = two .before .before in
-    let w = one .before .before in
+    let four = five .before .before .before in
+    let three = four .before .before .before .before in
+    let two = three .before .before .before .before in
+    let one = two .before .before .before .before in
+    let w = one .before .before .before in
     let b = w .before in
     let a = b .before .before .before .before .before .args in
     let v = now (a .vram) in
@@ -40,13 +52,17 @@ mixed-spec =
     (λ c κs. search needs)
     (λ c κs. search needs)
     (λ c. search needs)
-    (λ c κs. search needs)
     (λ c. search needs)
-    (λ c κs. search needs)
+    row-requires
     (λ c. search needs)
-    (λ c κs. search needs)
     (λ c. search needs)
-    (λ c κs. search needs)
+    row-requires-2
+    (λ c. search needs)
+    (λ c. search needs)
+    row-requires-3
+    (λ c. search needs)
+    (λ c. search needs)
+    row-requires-4
     (λ c. search needs)
     (λ c κs. search needs)
     (λ c. search needs)
