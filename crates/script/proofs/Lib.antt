@@ -1,0 +1,4 @@
+pub mod Tests
+pub mod Seeking
+pub mod Reading
+pub mod Naming

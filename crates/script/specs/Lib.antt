@@ -1,0 +1,3 @@
+pub mod Seek
+pub mod Number
+pub mod Names
