@@ -1,0 +1,185 @@
+// Both lines, and what is laid over them.
+use crate::cells;
+use crate::say;
+use crate::statement::among;
+use laying::LinesAnswer;
+use line::Candidate;
+use line::LinePixel;
+use line::Lines;
+use line::Priority;
+use line::inner::bg_index;
+use line::inner::pick;
+
+// The pixel that a statement describes.
+fn pixel_of(c: [u64; 112]) -> LinePixel {
+    let layer = cells::layer(c[cells::LAYER]);
+    let z = priority_of(c);
+    LinePixel {
+        color: cells::word(c[cells::COLOR]),
+        z,
+        layer,
+        obj_math: c[cells::MATH] == 1,
+    }
+}
+
+// The priority z; a sprite's is that of its bits where z is 0.
+fn priority_of(c: [u64; 112]) -> Priority {
+    if (c[cells::LAYER] == 4) & (c[cells::Z] == 0) {
+        return Priority::obj(cells::byte(c[cells::PRIO]));
+    }
+    Priority::new(cells::byte(c[cells::Z]))
+}
+
+// A line with a pixel in some columns.
+fn put(before: [LinePixel; 256], n: u64, c: [u64; 112]) -> [LinePixel; 256] {
+    let p = pixel_of(c);
+    let mut line = before;
+    for x in 0..256usize {
+        line[x] = pick(among(n, c, x), p, line[x]);
+    }
+    line
+}
+
+fn with_main(lines: Lines, n: u64, c: [u64; 112]) -> Lines {
+    let before = lines.main;
+    let main = put(before, n, c);
+    let sub = lines.sub;
+    Lines { main, sub }
+}
+
+fn with_sub(lines: Lines, n: u64, c: [u64; 112]) -> Lines {
+    let before = lines.sub;
+    let sub = put(before, n, c);
+    let main = lines.main;
+    Lines { main, sub }
+}
+
+fn same(a: LinePixel, b: LinePixel) -> bool {
+    let near = a.z;
+    let far = b.z;
+    let first = a.layer;
+    let second = b.layer;
+    let places = near.covers(far) & far.covers(near) & (bg_index(first) == bg_index(second));
+    places & (a.color == b.color) & (digest::one(a.obj_math) == digest::one(b.obj_math))
+}
+
+// The columns in which one of the lines is no more what it was.
+fn changed(before: Lines, after: Lines) -> u64 {
+    let main = before.main;
+    let sub = before.sub;
+    let over = after.main;
+    let under = after.sub;
+    let mut n: u64 = 0;
+    for x in 0..256usize {
+        let kept = same(main[x], over[x]) & same(sub[x], under[x]);
+        n = n % 512 + digest::one(!kept);
+    }
+    n
+}
+
+// Writes of the lines how many columns changed, or one column.
+fn told(before: Lines, after: Lines, c: [u64; 112]) {
+    if c[cells::COUNT] == 1 {
+        say::number(b"", changed(before, after));
+        say::words(b" columns changed");
+        return;
+    }
+    let main = after.main;
+    let sub = after.sub;
+    let x = (c[cells::COLUMN] % 256) as usize;
+    say::both(main[x], sub[x]);
+}
+
+// Writes what a call left of the lines, and hands on what is kept.
+fn left(before: Lines, answer: LinesAnswer, c: [u64; 112]) -> Lines {
+    let verdict = answer.verdict;
+    let after = answer.lines;
+    say::begin();
+    say::verdict(verdict);
+    told(before, after, c);
+    if c[cells::KEEP] == 1 {
+        return after;
+    }
+    before
+}
+
+// Writes the row that the lines make.
+fn composed(row: &mut [u8], lines: Lines, c: [u64; 112]) {
+    let n = cells::lent(c[59], row);
+    let verdict = composite::composite_line(&mut row[..n], lines, cells::registers(c));
+    let m = cells::lent(c[59], row);
+    say::drawn(verdict, &row[..m], c, 0);
+}
+
+fn composite(lines: Lines, c: [u64; 112]) -> Lines {
+    let mut row = [7u8; 769];
+    composed(&mut row, lines, c);
+    lines
+}
+
+// A candidate that comes to what main holds at a column.
+fn deposited(lines: Lines, c: [u64; 112]) -> Lines {
+    let main = lines.main;
+    let x = (c[cells::COLUMN] % 256) as usize;
+    let pixel = pixel_of(c);
+    let opaque = c[cells::CLEAR] == 0;
+    say::begin();
+    say::pixel(b"", line::deposit(main[x], Candidate { opaque, pixel }));
+    lines
+}
+
+fn drawn(
+    lines: Lines,
+    vram: &[u16],
+    cgram: &[u16],
+    oam: &[u8],
+    verb: usize,
+    n: u64,
+    c: [u64; 112],
+) -> LinesAnswer {
+    let r = cells::registers(c);
+    let y = c[cells::ROW] as usize;
+    match verb {
+        51 => layers::backdrop_lines(cgram, r),
+        52 => background::render_bg_scanline(lines, vram, cgram, r, cells::params(c), y),
+        53 => sprites::render_sprites(lines, vram, cgram, oam, r, y),
+        _ => layers::render_layer(lines, vram, cgram, oam, r, y, n as usize),
+    }
+}
+
+fn lent(
+    lines: Lines,
+    vram: &[u16],
+    cgram: &[u16],
+    oam: &[u8],
+    verb: usize,
+    n: u64,
+    c: [u64; 112],
+) -> Lines {
+    let v = cells::lent_words(c[56], vram);
+    let g = cells::lent_words(c[57], cgram);
+    let o = cells::lent(c[58], oam);
+    let answer = drawn(lines, &vram[..v], &cgram[..g], &oam[..o], verb, n, c);
+    left(lines, answer, c)
+}
+
+// The lines after a statement.
+pub(crate) fn ask(
+    lines: Lines,
+    vram: &[u16],
+    cgram: &[u16],
+    oam: &[u8],
+    verb: usize,
+    n: u64,
+    c: [u64; 112],
+) -> Lines {
+    match verb {
+        48 => Lines::backdrops(cells::word(c[cells::MAIN]), cells::word(c[cells::SUB])),
+        49 => with_main(lines, n, c),
+        50 => with_sub(lines, n, c),
+        51..=54 => lent(lines, vram, cgram, oam, verb, n, c),
+        55 => composite(lines, c),
+        56 => deposited(lines, c),
+        _ => lines,
+    }
+}

@@ -1,0 +1,135 @@
+// The data port of sprite memory, and the flags kept from row to row.
+use crate::cells;
+use crate::say;
+use oam_flags::OamFlags;
+use oam_port::ByteAnswer;
+use oam_port::OamPort;
+
+fn port_of(c: [u64; 112]) -> OamPort {
+    OamPort {
+        address: cells::word(c[cells::ADDRESS]),
+        write_latch: cells::byte(c[cells::LATCH]),
+    }
+}
+
+// Writes the port, and keeps it.
+fn left(before: [u64; 112], p: OamPort) -> [u64; 112] {
+    say::small(b"address ", p.address);
+    say::byte(b", latch ", p.write_latch);
+    let mut c = before;
+    c[cells::ADDRESS] = p.address as u64;
+    c[cells::LATCH] = p.write_latch as u64;
+    c
+}
+
+fn new_port(c: [u64; 112]) -> [u64; 112] {
+    say::begin();
+    left(c, OamPort::new())
+}
+
+fn address(c: [u64; 112], value: u64) -> [u64; 112] {
+    let answer = port_of(c).write_addr(cells::word(value));
+    let verdict = answer.verdict;
+    say::begin();
+    say::verdict(verdict);
+    left(c, answer.port)
+}
+
+// The bytes of sprite memory.
+fn copy(oam: &[u8]) -> [u8; 545] {
+    let mut out = [0u8; 545];
+    for i in 0..545usize {
+        if i < oam.len() {
+            out[i] = oam[i];
+        }
+    }
+    out
+}
+
+// The bytes that are no more what they were.
+fn changed(before: [u8; 545], oam: &[u8]) {
+    for i in 0..545usize {
+        if i < oam.len() {
+            byte(i, before[i], oam[i]);
+        }
+    }
+}
+
+fn byte(i: usize, before: u8, after: u8) {
+    if before != after {
+        say::number(b", byte ", i as u64);
+        say::byte(b" is ", after);
+    }
+}
+
+fn write(oam: &mut [u8], value: u64, c: [u64; 112]) -> [u64; 112] {
+    let before = copy(oam);
+    let n = cells::lent(c[58], oam);
+    let answer = port_of(c).write_data(&mut oam[..n], cells::byte(value));
+    let verdict = answer.verdict;
+    say::begin();
+    say::verdict(verdict);
+    let after = left(c, answer.port);
+    changed(before, oam);
+    after
+}
+
+fn value(byte: ByteAnswer) {
+    match byte {
+        ByteAnswer::Is(b) => say::byte(b"", b),
+        ByteAnswer::Refused(r) => say::refused(r),
+    }
+}
+
+fn read(oam: &[u8], c: [u64; 112]) -> [u64; 112] {
+    let n = cells::lent(c[58], oam);
+    let answer = port_of(c).read_data(&oam[..n]);
+    let byte = answer.byte;
+    say::begin();
+    value(byte);
+    say::words(b", ");
+    left(c, answer.port)
+}
+
+fn flags_of(c: [u64; 112]) -> OamFlags {
+    OamFlags {
+        time_over: c[cells::TIME] == 1,
+        range_over: c[cells::RANGE] == 1,
+    }
+}
+
+fn one(b: bool) -> u64 {
+    if b { 1 } else { 0 }
+}
+
+// Writes the flags, and keeps them.
+fn flagged(before: [u64; 112], f: OamFlags) -> [u64; 112] {
+    say::begin();
+    say::bit(b"time ", f.time_over);
+    say::bit(b", range ", f.range_over);
+    let mut c = before;
+    c[cells::TIME] = one(f.time_over);
+    c[cells::RANGE] = one(f.range_over);
+    c
+}
+
+fn kept(c: [u64; 112]) -> [u64; 112] {
+    let f = flags_of(c);
+    let time_over = c[cells::OVER_TIME] == 1;
+    let range_over = c[cells::OVER_RANGE] == 1;
+    flagged(c, f.latch_flags(time_over, range_over))
+}
+
+// The cells after a statement.
+pub(crate) fn ask(oam: &mut [u8], verb: usize, n: u64, c: [u64; 112]) -> [u64; 112] {
+    match verb {
+        32 => new_port(c),
+        33 => address(c, n),
+        34 => write(oam, n, c),
+        35 => read(oam, c),
+        36 => flagged(c, OamFlags::new()),
+        37 => kept(c),
+        38 => flagged(c, flags_of(c).clear_flags()),
+        _ => c,
+    }
+}
