@@ -7,6 +7,8 @@ use registers::PPURegisters;
 use script::place;
 use tiles::BitDepth;
 ghost use Prim.Native.Nat.{_<_};
+ghost use mathlib.Core.Path.{_≡_};
+ghost use lib.ListN.{length};
 ghost use Rattle.io.specs.Counts.{Counts};
 
 pub(crate) const CELLS: usize = 112;
@@ -327,40 +329,136 @@ pub(crate) fn after(cells: [u64; 112], line: bool) -> [u64; 112] {
     c
 }
 
-pub(crate) fn registers(c: [u64; 112]) -> PPURegisters {
-    PPURegisters {
-        inidisp: byte(c[0]),
-        objsel: byte(c[1]),
-        oamadd: word(c[2]),
-        bgmode: byte(c[3]),
-        mosaic: byte(c[4]),
-        bgsc: [byte(c[5]), byte(c[6]), byte(c[7]), byte(c[8])],
-        bg12nba: byte(c[9]),
-        bg34nba: byte(c[10]),
-        bg1hofs: word(c[11]),
-        bghofs: [word(c[12]), word(c[13]), word(c[14])],
-        bg1vofs: word(c[15]),
-        bgvofs: [word(c[16]), word(c[17]), word(c[18])],
-        w12sel: byte(c[19]),
-        w34sel: byte(c[20]),
-        wobjsel: byte(c[21]),
-        wh0: byte(c[22]),
-        wh1: byte(c[23]),
-        wh2: byte(c[24]),
-        wh3: byte(c[25]),
-        wbglog: byte(c[26]),
-        wobjlog: byte(c[27]),
-        tm: byte(c[28]),
-        ts: byte(c[29]),
-        tmw: byte(c[30]),
-        tsw: byte(c[31]),
-        cgwsel: byte(c[32]),
-        cgadsub: byte(c[33]),
-        coldata: word(c[34]),
-        setini: byte(c[35]),
-        mosaic_vcounter: byte(c[36]),
-        field: c[37] == 1,
+// Byte j of a scene's section of registers is of this cell, divided by this number.
+const CELL: [usize; 48] = [
+    0,
+    1,
+    2,
+    2,
+    3,
+    4,
+    5,
+    6,
+    7,
+    8,
+    9,
+    10,
+    11,
+    11,
+    12,
+    12,
+    13,
+    13,
+    14,
+    14,
+    15,
+    15,
+    16,
+    16,
+    17,
+    17,
+    18,
+    18,
+    19,
+    20,
+    21,
+    22,
+    23,
+    24,
+    25,
+    26,
+    27,
+    28,
+    29,
+    30,
+    31,
+    32,
+    33,
+    34,
+    34,
+    35,
+    36,
+    37,
+];
+
+const SHARE: [u64; 48] = [
+    1,
+    1,
+    1,
+    256,
+    1,
+    1,
+    1,
+    1,
+    1,
+    1,
+    1,
+    1,
+    1,
+    256,
+    1,
+    256,
+    1,
+    256,
+    1,
+    256,
+    1,
+    256,
+    1,
+    256,
+    1,
+    256,
+    1,
+    256,
+    1,
+    1,
+    1,
+    1,
+    1,
+    1,
+    1,
+    1,
+    1,
+    1,
+    1,
+    1,
+    1,
+    1,
+    1,
+    1,
+    256,
+    1,
+    1,
+    1,
+];
+
+fn section_byte(c: [u64; 112], j: usize) -> u8 {
+    if j < 48 {
+        let k = CELL[j];
+        if k < CELLS {
+            if SHARE[j] == 1 {
+                return byte(c[k]);
+            }
+            return byte(c[k] / 256);
+        }
     }
+    0
+}
+
+// The registers as a scene's section has them.
+fn section(c: [u64; 112]) -> [u8; 48]
+    ensures { λ r. ⌜ length r ≡ 48 ⌝ }
+{
+    let mut bytes = [0u8; 48];
+    for j in 0..48usize {
+        bytes[j] = section_byte(c, j);
+    }
+    bytes
+}
+
+pub(crate) fn registers(c: [u64; 112]) -> PPURegisters {
+    let bytes = section(c);
+    scene_bytes::inner::registers(&bytes)
 }
 
 // BG1 to BG4, sprites, the backdrop.
