@@ -1,0 +1,4 @@
+pub mod Replay
+pub mod Drawing
+pub mod Memory
+pub mod Placing
