@@ -1,30 +1,58 @@
 // Replays the oracle's list `oam`: the sprites that sprite memory describes, their sizes and their
 // columns.
-mod memory;
-
 use digest::fold;
 use digest::marks;
+use digest::packed;
 use digest::place;
 use generator::next;
 use generator::word;
 use oam::Sprite;
 use oam::SpriteAnswer;
-ghost use Prim.Native.Nat.{_≤_};
-ghost use mathlib.Core.Path.{_≡_};
-ghost use lib.ListN.{length};
+use replay::drawing::low;
+use replay::hex;
 
-// Hexadecimal digits that end a line.
-fn line(v: u64, digits: usize) {
-    io::print_hex(1, v, digits);
-    io::write_all(1, b"\n");
+// The columns at which the rules change.
+const EDGES: [u16; 8] = [0, 1, 255, 256, 257, 504, 505, 511];
+
+// Random bytes.
+fn filled(seed: u32) -> [u8; 544] {
+    let mut oam = [0u8; 544];
+    let mut x = seed;
+    for i in 0..544usize {
+        x = next(x);
+        oam[i] = low(word(x));
+    }
+    oam
 }
 
-// The sprite. A refusal writes a word that no list has.
+// The columns at the edges in either size, the attribute bytes the even or the odd ones.
+fn arranged(bytes: [u8; 544], m: u8) -> [u8; 544] {
+    let mut oam = bytes;
+    for i in 0..128usize {
+        let x = EDGES[i / 4 % 8];
+        let bits = (x / 256 % 2) as u8 + (i / 32 % 2) as u8 * 2;
+        oam[512 + i / 4] = packed(oam[512 + i / 4], i, bits);
+        oam[i * 4] = low(x);
+        oam[i * 4 + 3] = ((i * 2 + m as usize) % 256) as u8;
+    }
+    oam
+}
+
+// Memory m: random bytes, from 2 on arranged.
+fn memory(m: u8) -> [u8; 544] {
+    let bytes = filled(10 + m as u32);
+    if m < 2 {
+        return bytes;
+    }
+    arranged(bytes, m)
+}
+
+// The sprite. A refusal writes a line that no list has.
 fn sprite(answer: SpriteAnswer) -> Sprite {
     match answer {
         SpriteAnswer::Is(s) => s,
-        SpriteAnswer::Refused(_) => {
-            io::write_all(1, b"refused ");
+        SpriteAnswer::Refused(n) => {
+            say::refuse(n);
             Sprite::blank()
         }
     }
@@ -35,20 +63,18 @@ fn show(oam: &[u8], seed: u32) -> u32 {
     let mut x = seed;
     for i in 0..128u8 {
         x = next(x);
-        let s = sprite(oam::get_sprite(oam, i, (word(x) % 256) as u8));
+        let s = sprite(oam::get_sprite(oam, i, low(word(x))));
         io::print_hex(1, place(s), 12);
-        line(marks(s), 7);
+        hex(marks(s), 7, b'\n');
     }
     x
 }
 
-fn sprites(oam: &mut [u8])
-    requires { ⌜ length (now oam) ≡ 544 ⌝ }
-{
+fn sprites() {
     let mut x: u32 = 9;
-    for m in 0..6u32 {
-        memory::memory(oam, m);
-        x = show(oam, x);
+    for m in 0..6u8 {
+        let oam = memory(m);
+        x = show(&oam, x);
     }
 }
 
@@ -62,19 +88,13 @@ fn one_digest(oam: &[u8], objsel: u8) -> u32 {
     d
 }
 
-// Every objsel.
-fn digests(oam: &[u8]) {
-    for n in 0..256u16 {
-        line(one_digest(oam, n as u8) as u64, 8);
-    }
-}
-
-fn all_digests(oam: &mut [u8])
-    requires { ⌜ length (now oam) ≡ 544 ⌝ }
-{
-    for m in 0..6u32 {
-        memory::memory(oam, m);
-        digests(oam);
+// Every objsel of each memory.
+fn digests() {
+    for m in 0..6u8 {
+        let oam = memory(m);
+        for n in 0..256u16 {
+            hex(one_digest(&oam, low(n)) as u64, 8, b'\n');
+        }
     }
 }
 
@@ -84,14 +104,13 @@ fn sizes() {
         let small = oam::sprite_size(n as u8, false);
         let large = oam::sprite_size(n as u8, true);
         io::print_hex(1, small.width as u64 * 256 + small.height as u64, 4);
-        line(large.width as u64 * 256 + large.height as u64, 4);
+        hex(large.width as u64 * 256 + large.height as u64, 4, b'\n');
     }
 }
 
 // A digest of the nine bits of 2,048 columns from 0 up, and of as many from -1 down.
-fn columns(first: u16) -> u32
-    requires { ⌜ first ≤ 30720 ⌝ }
-{
+fn columns(block: u16) -> u32 {
+    let first = block % 16 * 2048;
     let mut d: u32 = 0;
     for n in 0..2048u16 {
         let x = (first + n) as i16;
@@ -100,20 +119,15 @@ fn columns(first: u16) -> u32
     d
 }
 
-fn all_columns() {
-    for block in 0..16u16 {
-        line(columns(block * 2048) as u64, 8);
-    }
-}
-
 fn main() {
-    let mut oam = [0u8; 544];
     io::write_all(1, b"sprites\n");
-    sprites(&mut oam);
+    sprites();
     io::write_all(1, b"sprites digests\n");
-    all_digests(&mut oam);
+    digests();
     io::write_all(1, b"sizes\n");
     sizes();
     io::write_all(1, b"columns digests\n");
-    all_columns();
+    for block in 0..16u16 {
+        hex(columns(block) as u64, 8, b'\n');
+    }
 }

@@ -1,15 +1,13 @@
 use borrow.Author.Needs.{needs}
 use Prim.Native.Nat.{_-_}
-use lib.ListN.{length}
-use mathlib.Core.Path.{_≡_}
 use Rattle.replay_oam.proofs.sprites.Statement.{statement}
 use Rattle.replay_oam.proofs.sprites.Tie as tie
 
 abbrev Inv-loop : tie.InvT-loop
-Inv-loop oam₀ x₀ m₀ oam x m = length oam ≡ length oam₀
+Inv-loop x₀ m₀ x m = Unit {0}
 
 abbrev μ-loop : tie.MeasureT-loop
-μ-loop oam₀ x₀ m₀ oam x m = 6 - m
+μ-loop x₀ m₀ x m = 6 - m
 
 pub sprites-spec : {M : Type 1} → statement M
 sprites-spec =
@@ -19,8 +17,8 @@ sprites-spec =
     μ-loop
     (λ c. search needs)
     (λ c κs. search needs)
-    (λ c κs. search needs)
     (λ c. search needs)
+    (λ c κs. search needs)
     (λ c. search needs)
     (λ c. search needs)
     (λ c. search needs)

@@ -1,7 +1,7 @@
 use borrow.Author.Needs.{needs}
 use Prim.Native.Nat.{_-_}
-use Rattle.replay_oam.proofs.all_columns.Statement.{statement}
-use Rattle.replay_oam.proofs.all_columns.Tie as tie
+use Rattle.replay_oam.proofs.main.Statement.{statement}
+use Rattle.replay_oam.proofs.main.Tie as tie
 
 abbrev Inv-loop : tie.InvT-loop
 Inv-loop block₀ block = Unit {0}
@@ -9,13 +9,23 @@ Inv-loop block₀ block = Unit {0}
 abbrev μ-loop : tie.MeasureT-loop
 μ-loop block₀ block = 16 - block
 
-pub all-columns-spec : {M : Type 1} → statement M
-all-columns-spec =
+pub main-spec : {M : Type 1} → statement M
+main-spec =
     tie.close
     (tie.spec
     Inv-loop
     μ-loop
     (λ c. search needs)
+    (λ c κs. search needs)
+    (λ c κs. search needs)
+    (λ c. search needs)
+    (λ c κs. search needs)
+    (λ c κs. search needs)
+    (λ c. search needs)
+    (λ c κs. search needs)
+    (λ c κs. search needs)
+    (λ c. search needs)
+    (λ c κs. search needs)
     (λ c. search needs)
     (λ c κs. search needs)
     (λ c. search needs)
