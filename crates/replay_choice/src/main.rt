@@ -4,26 +4,12 @@ mod scene;
 
 use std::num::wrapping_add_u32;
 
-// Hexadecimal digits that end a line.
-fn line(v: u64, digits: usize) {
-    io::print_hex(1, v, digits);
-    io::write_all(1, b"\n");
-}
-
-// The list's seed: four bytes of the standard input, or the list's own.
-fn seed() -> u32 {
-    let mut bytes = [0u8; 4];
-    let n = io::read_full(0, &mut bytes);
-    generator::seed(&bytes[..n], 20)
-}
-
 fn main() {
-    let x = seed();
-    let mut oam = [0u8; 544];
+    let x = replay::seed(20);
     io::write_all(1, b"scenes\n");
-    rows::scenes(&mut oam, x);
+    rows::scenes(x);
     io::write_all(1, b"piles\n");
-    rows::piles(&mut oam, wrapping_add_u32(x, 1));
+    rows::piles(wrapping_add_u32(x, 1));
     io::write_all(1, b"settings digests\n");
-    rows::settings(&mut oam, wrapping_add_u32(x, 2));
+    rows::settings(wrapping_add_u32(x, 2));
 }

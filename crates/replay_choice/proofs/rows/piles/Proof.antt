@@ -1,15 +1,13 @@
 use borrow.Author.Needs.{needs}
 use Prim.Native.Nat.{_-_}
-use lib.ListN.{length}
-use mathlib.Core.Path.{_≡_}
 use Rattle.replay_choice.proofs.rows.piles.Statement.{statement}
 use Rattle.replay_choice.proofs.rows.piles.Tie as tie
 
 abbrev Inv-loop : tie.InvT-loop
-Inv-loop oam₀ seed x₀ n₀ oam x n = length oam ≡ length oam₀
+Inv-loop seed x₀ n₀ x n = Unit {0}
 
 abbrev μ-loop : tie.MeasureT-loop
-μ-loop oam₀ seed x₀ n₀ oam x n = 24 - n
+μ-loop seed x₀ n₀ x n = 24 - n
 
 pub piles-spec : {M : Type 1} → statement M
 piles-spec =
@@ -18,16 +16,15 @@ piles-spec =
     Inv-loop
     μ-loop
     (λ c. search needs)
-    (λ c κs. search needs)
-    (λ c κs. search needs)
-    (λ c κs. search needs)
-    (λ c κs. search needs)
-    (λ c κs. search needs)
-    (λ c κs. search needs)
-    (λ c κs. search needs)
+    (λ c. search needs)
     (λ c κs. search needs)
     (λ c κs. search needs)
     (λ c. search needs)
+    (λ c κs. search needs)
+    (λ c κs. search needs)
+    (λ c κs. search needs)
+    (λ c κs. search needs)
+    (λ c κs. search needs)
     (λ c. search needs)
     (λ c. search needs)
     (λ c. search needs)

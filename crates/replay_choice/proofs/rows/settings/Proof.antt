@@ -4,10 +4,10 @@ use Rattle.replay_choice.proofs.rows.settings.Statement.{statement}
 use Rattle.replay_choice.proofs.rows.settings.Tie as tie
 
 abbrev Inv-loop : tie.InvT-loop
-Inv-loop oam seed x₀ n₀ x n = Unit {0}
+Inv-loop seed oam x₀ n₀ x n = Unit {0}
 
 abbrev μ-loop : tie.MeasureT-loop
-μ-loop oam seed x₀ n₀ x n = 512 - n
+μ-loop seed oam x₀ n₀ x n = 512 - n
 
 pub settings-spec : {M : Type 1} → statement M
 settings-spec =
@@ -16,10 +16,14 @@ settings-spec =
     Inv-loop
     μ-loop
     (λ c κs. search needs)
+    (λ c κs. search needs)
+    (λ c. search needs)
     (λ c. search needs)
     (λ c. search needs)
     (λ c κs. search needs)
     (λ c. search needs)
+    (λ c κs. search needs)
+    (λ c κs. search needs)
     (λ c. search needs)
     (λ c. search needs)
     (λ c. search needs)
