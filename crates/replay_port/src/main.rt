@@ -1,245 +1,192 @@
 // Replays the oracle's list `port`: the data port of sprite memory.
-use digest::fold;
 use generator::next;
 use generator::word;
 use oam_port::ByteAnswer;
 use oam_port::OamPort;
-use refusal::Verdict;
+use replay::drawing::after;
+use replay::drawing::low;
+use replay::drawing::nth;
+use replay::hex;
 use std::num::wrapping_add_u32;
 
-// Hexadecimal digits.
-fn digits(v: u64, n: usize) {
-    io::print_hex(1, v, n);
-}
+// The addresses at which the rules change.
+const EDGES: [u16; 8] = [0, 255, 256, 271, 272, 511, 512, 65535];
 
-fn end_line() {
-    io::write_all(1, b"\n");
-}
-
-// A digest with one byte more.
-fn folded(digest: u32, byte: u8) -> u32 {
-    fold(digest, byte as u64)
+// The port over its memory.
+struct Memory {
+    port: OamPort,
+    oam: [u8; 544],
 }
 
 // A digest of the memory.
-fn memory(oam: &[u8]) -> u32 {
-    let mut d: u32 = 0;
-    for i in 0..oam.len() {
-        d = folded(d, oam[i]);
-    }
-    d
+fn say(m: Memory, end: u8) {
+    let oam = m.oam;
+    hex(replay::bytes(&oam) as u64, 8, end);
 }
 
-// A refusal writes a word that no list has.
-fn settle(verdict: Verdict) {
-    match verdict {
-        Verdict::Fine => {}
-        Verdict::Refused(_) => {
-            io::write_all(1, b"refused ");
-        }
-    }
-}
-
-fn at(port: OamPort, oamadd: u16) -> OamPort {
-    let answer = port.write_addr(oamadd);
+fn at(m: Memory, oamadd: u16) -> Memory {
+    let answer = m.port.write_addr(oamadd);
     let verdict = answer.verdict;
-    settle(verdict);
-    answer.port
+    replay::settle(verdict);
+    let port = answer.port;
+    let oam = m.oam;
+    Memory { port, oam }
 }
 
-fn write(port: OamPort, oam: &mut [u8], value: u8) -> OamPort {
-    let answer = port.write_data(oam, value);
+fn write(m: Memory, value: u16) -> Memory {
+    let mut oam = m.oam;
+    let answer = m.port.write_data(&mut oam, low(value));
     let verdict = answer.verdict;
-    settle(verdict);
-    answer.port
+    replay::settle(verdict);
+    let port = answer.port;
+    Memory { port, oam }
 }
 
-// The byte read, in two digits.
+// The byte read, in two digits. A refusal writes a line that no list has.
 fn show(byte: ByteAnswer) {
     match byte {
-        ByteAnswer::Is(b) => digits(b as u64, 2),
-        ByteAnswer::Refused(_) => {
-            io::write_all(1, b"refused ");
+        ByteAnswer::Is(b) => {
+            io::print_hex(1, b as u64, 2);
+        }
+        ByteAnswer::Refused(n) => {
+            say::refuse(n);
         }
     }
 }
 
-fn read(port: OamPort, oam: &[u8]) -> OamPort {
-    let answer = port.read_data(oam);
+fn read(m: Memory) -> Memory {
+    let oam = m.oam;
+    let answer = m.port.read_data(&oam);
     let byte = answer.byte;
     show(byte);
-    answer.port
+    let port = answer.port;
+    Memory { port, oam }
 }
 
 // An address, and one byte further on.
-fn start(port: OamPort, oam: &[u8], oamadd: u16, odd: bool) -> OamPort {
-    let there = at(port, oamadd);
-    if odd {
-        there.read_data(oam).port
-    } else {
-        there
+fn start(m: Memory, oamadd: u16, odd: bool) -> Memory {
+    let there = at(m, oamadd);
+    if !odd {
+        return there;
     }
-}
-
-fn edge(k: u16) -> u16 {
-    match k {
-        0 => 0,
-        1 => 255,
-        2 => 256,
-        3 => 271,
-        4 => 272,
-        5 => 511,
-        6 => 512,
-        _ => 65535,
-    }
+    let oam = there.oam;
+    let port = there.port.read_data(&oam).port;
+    Memory { port, oam }
 }
 
 // One access: an address, an edge's address, a byte written or a byte read.
-fn access(port: OamPort, oam: &mut [u8], op: u16, value: u16) -> OamPort {
+fn access(m: Memory, op: u16, value: u16) -> Memory {
     match op {
-        0 => at(port, value),
-        1 => at(port, edge(value % 8)),
-        2..=8 => write(port, oam, (value % 256) as u8),
-        _ => read(port, oam),
+        0 => at(m, value),
+        1 => at(m, EDGES[(value % 8) as usize]),
+        2..=8 => write(m, value),
+        _ => read(m),
     }
 }
 
-// The port and the generator's state after some accesses.
-struct Turn {
-    port: OamPort,
-    x: u32,
-}
-
 // 64 accesses and the memory's digest.
-fn mixed_line(given: OamPort, oam: &mut [u8], seed: u32) -> Turn {
-    let mut port = given;
+fn mixed_line(given: Memory, seed: u32) -> Memory {
+    let mut m = given;
     let mut x = seed;
     for _ in 0..64u32 {
         let y = next(x);
         x = next(y);
-        port = access(port, oam, word(y) % 16, word(x));
+        m = access(m, word(y) % 16, word(x));
     }
     io::write_all(1, b" ");
-    digits(memory(oam) as u64, 8);
-    end_line();
-    Turn { port, x }
+    say(m, b'\n');
+    m
 }
 
-fn mixed(given: OamPort, oam: &mut [u8], seed: u32) -> OamPort {
-    let mut turn = Turn {
-        port: given,
-        x: seed,
-    };
+fn mixed(given: Memory, seed: u32) -> Memory {
+    let mut m = given;
+    let mut x = seed;
     for _ in 0..128u32 {
-        turn = mixed_line(turn.port, oam, turn.x);
+        m = mixed_line(m, x);
+        x = after(128, x);
     }
-    turn.port
+    m
 }
 
-fn write_run(given: OamPort, oam: &mut [u8], seed: u32) -> Turn {
-    let mut port = given;
+fn write_run(given: Memory, seed: u32) -> Memory {
+    let mut m = given;
     let mut x = seed;
     for _ in 0..80u32 {
         x = next(x);
-        port = write(port, oam, (word(x) % 256) as u8);
+        m = write(m, word(x));
     }
-    Turn { port, x }
+    m
 }
 
-fn read_run(given: OamPort, oam: &[u8], bytes: u32) -> OamPort {
-    let mut port = given;
+fn read_run(given: Memory, bytes: u32) -> Memory {
+    let mut m = given;
     for _ in 0..bytes {
-        port = read(port, oam);
+        m = read(m);
     }
-    end_line();
-    port
+    io::write_all(1, b"\n");
+    m
 }
 
 // From each edge, and from one byte further on.
-fn runs(given: OamPort, oam: &mut [u8], seed: u32) -> OamPort {
-    let mut port = given;
+fn runs(given: Memory, seed: u32) -> Memory {
+    let mut m = given;
     let mut x = seed;
-    for n in 0..16u16 {
-        let begun = start(port, oam, edge(n / 2), n % 2 == 1);
-        let turn = write_run(begun, oam, x);
-        x = turn.x;
-        digits(memory(oam) as u64, 8);
-        io::write_all(1, b" ");
-        port = read_run(start(turn.port, oam, edge(n / 2), n % 2 == 1), oam, 80);
+    for n in 0..16usize {
+        let edge = EDGES[n / 2];
+        m = write_run(start(m, edge, n % 2 == 1), x);
+        x = after(80, x);
+        say(m, b' ');
+        m = read_run(start(m, edge, n % 2 == 1), 80);
     }
-    port
+    m
 }
 
 // Every other time a byte of the second table is written.
-fn aside(port: OamPort, oam: &mut [u8], value: u8, now: bool) -> OamPort {
+fn aside(m: Memory, value: u16, now: bool) -> Memory {
     if !now {
-        return port;
+        return m;
     }
-    write(at(port, 256), oam, value)
+    write(at(m, 256), value)
 }
 
-// A pair that is stored at another address than its first byte was given at.
-struct Pair {
-    from: u16,
-    to: u16,
-    first: u8,
-    second: u8,
-    other: u8,
+// A pair that is stored at another address than its first byte was given at. Five numbers are drawn.
+fn apart(m: Memory, more: bool, seed: u32) -> Memory {
+    let to = nth(2, seed) % 256;
+    let latched = write(at(m, nth(1, seed) % 256), nth(3, seed));
+    let waiting = aside(latched, nth(5, seed), more);
+    let halfway = read(at(waiting, to));
+    let stored = write(halfway, nth(4, seed));
+    read_run(at(stored, to), 2)
 }
 
-fn apart(port: OamPort, oam: &mut [u8], p: Pair, more: bool) -> OamPort {
-    let latched = write(at(port, p.from), oam, p.first);
-    let waiting = aside(latched, oam, p.other, more);
-    let halfway = read(at(waiting, p.to), oam);
-    let stored = write(halfway, oam, p.second);
-    read_run(at(stored, p.to), oam, 2)
-}
-
-fn latch(given: OamPort, oam: &mut [u8], seed: u32) -> OamPort {
-    let mut port = given;
+fn latch(given: Memory, seed: u32) -> Memory {
+    let mut m = given;
     let mut x = seed;
     for n in 0..64u32 {
-        let a = next(x);
-        let b = next(a);
-        let c = next(b);
-        let d = next(c);
-        x = next(d);
-        let pair = Pair {
-            from: word(a) % 256,
-            to: word(b) % 256,
-            first: (word(c) % 256) as u8,
-            second: (word(d) % 256) as u8,
-            other: (word(x) % 256) as u8,
-        };
-        port = apart(port, oam, pair, n % 2 == 1);
+        m = apart(m, n % 2 == 1, x);
+        x = after(5, x);
     }
-    port
+    m
 }
 
 // All addresses.
-fn whole(given: OamPort, oam: &[u8]) {
-    let mut port = at(given, 0);
+fn whole(given: Memory) {
+    let mut m = at(given, 0);
     for _ in 0..32u32 {
-        port = read_run(port, oam, 32);
+        m = read_run(m, 32);
     }
 }
 
-// The list's seed: four bytes of the standard input, or the list's own.
-fn seed() -> u32 {
-    let mut bytes = [0u8; 4];
-    let n = io::read_full(0, &mut bytes);
-    generator::seed(&bytes[..n], 30)
-}
-
 fn main() {
-    let x = seed();
-    let mut oam = [0u8; 544];
+    let x = replay::seed(30);
+    let port = OamPort::new();
+    let oam = [0u8; 544];
     io::write_all(1, b"mixed\n");
-    let a = mixed(OamPort::new(), &mut oam, x);
+    let a = mixed(Memory { port, oam }, x);
     io::write_all(1, b"runs\n");
-    let b = runs(a, &mut oam, wrapping_add_u32(x, 1));
+    let b = runs(a, wrapping_add_u32(x, 1));
     io::write_all(1, b"latch\n");
-    let c = latch(b, &mut oam, wrapping_add_u32(x, 2));
+    let c = latch(b, wrapping_add_u32(x, 2));
     io::write_all(1, b"whole\n");
-    whole(c, &oam);
+    whole(c);
 }

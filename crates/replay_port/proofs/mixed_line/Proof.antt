@@ -1,15 +1,13 @@
 use borrow.Author.Needs.{needs}
 use Prim.Native.Nat.{_-_}
-use lib.ListN.{length}
-use mathlib.Core.Path.{_≡_}
 use Rattle.replay_port.proofs.mixed_line.Statement.{statement}
 use Rattle.replay_port.proofs.mixed_line.Tie as tie
 
 abbrev Inv-loop : tie.InvT-loop
-Inv-loop oam₀ seed port₀ x₀ t7 counter₀ oam port x counter = length oam ≡ length oam₀
+Inv-loop seed m₀ x₀ t6 counter₀ m x counter = Unit {0}
 
 abbrev μ-loop : tie.MeasureT-loop
-μ-loop oam₀ seed port₀ x₀ t7 counter₀ oam port x counter = 64 - counter
+μ-loop seed m₀ x₀ t6 counter₀ m x counter = 64 - counter
 
 pub mixed-line-spec : {M : Type 1} → statement M
 mixed-line-spec =
@@ -29,8 +27,4 @@ mixed-line-spec =
     (λ c. search needs)
     (λ c κs. search needs)
     (λ c κs. search needs)
-    (λ c. search needs)
-    (λ c κs. search needs)
-    (λ c κs. search needs)
-    (λ c. search needs)
     (λ c. search needs))

@@ -4,10 +4,10 @@ use Rattle.replay_port.proofs.read_run.Statement.{statement}
 use Rattle.replay_port.proofs.read_run.Tie as tie
 
 abbrev Inv-loop : tie.InvT-loop
-Inv-loop oam bytes port₀ counter₀ port counter = Unit {0}
+Inv-loop bytes m₀ t4 counter₀ m counter = Unit {0}
 
 abbrev μ-loop : tie.MeasureT-loop
-μ-loop oam bytes port₀ counter₀ port counter = bytes - counter
+μ-loop bytes m₀ t4 counter₀ m counter = bytes - counter
 
 pub read-run-spec : {M : Type 1} → statement M
 read-run-spec =
@@ -17,6 +17,7 @@ read-run-spec =
     μ-loop
     (λ c. search needs)
     (λ c κs. search needs)
+    (λ c. search needs)
     (λ c. search needs)
     (λ c. search needs)
     (λ c. search needs)

@@ -4,10 +4,10 @@ use Rattle.replay_port.proofs.whole.Statement.{statement}
 use Rattle.replay_port.proofs.whole.Tie as tie
 
 abbrev Inv-loop : tie.InvT-loop
-Inv-loop oam port₀ counter₀ port counter = Unit {0}
+Inv-loop m₀ counter₀ m counter = Unit {0}
 
 abbrev μ-loop : tie.MeasureT-loop
-μ-loop oam port₀ counter₀ port counter = 32 - counter
+μ-loop m₀ counter₀ m counter = 32 - counter
 
 pub whole-spec : {M : Type 1} → statement M
 whole-spec =

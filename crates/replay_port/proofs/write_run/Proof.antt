@@ -1,15 +1,13 @@
 use borrow.Author.Needs.{needs}
 use Prim.Native.Nat.{_-_}
-use lib.ListN.{length}
-use mathlib.Core.Path.{_≡_}
 use Rattle.replay_port.proofs.write_run.Statement.{statement}
 use Rattle.replay_port.proofs.write_run.Tie as tie
 
 abbrev Inv-loop : tie.InvT-loop
-Inv-loop oam₀ seed port₀ x₀ counter₀ oam port x counter = length oam ≡ length oam₀
+Inv-loop seed m₀ x₀ counter₀ m x counter = Unit {0}
 
 abbrev μ-loop : tie.MeasureT-loop
-μ-loop oam₀ seed port₀ x₀ counter₀ oam port x counter = 80 - counter
+μ-loop seed m₀ x₀ counter₀ m x counter = 80 - counter
 
 pub write-run-spec : {M : Type 1} → statement M
 write-run-spec =
@@ -20,9 +18,7 @@ write-run-spec =
     (λ c. search needs)
     (λ c κs. search needs)
     (λ c κs. search needs)
-    (λ c. search needs)
     (λ c κs. search needs)
-    (λ c. search needs)
     (λ c. search needs)
     (λ c. search needs)
     (λ c. search needs)
