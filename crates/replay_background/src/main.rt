@@ -1,19 +1,18 @@
 // Replays the oracle's list `background`: rows of scenes in which one background alone is lit.
-mod memory;
 mod rows;
 mod scene;
 
-// The list's seed: four bytes of the standard input, or the list's own.
-fn seed() -> u32 {
-    let mut bytes = [0u8; 4];
-    let n = io::read_full(0, &mut bytes);
-    generator::seed(&bytes[..n], 40)
-}
+use replay::drawing::after;
+use replay::drawing::words;
+use replay::memory::Filling;
+use replay::memory::vram;
 
 fn main() {
-    let x = seed();
-    let mut vram = [0u16; 32768];
-    let mut cgram = [0u16; 256];
+    let mut x = replay::seed(40);
     io::write_all(1, b"scenes\n");
-    rows::scenes(&mut vram, &mut cgram, x);
+    for filling in 0..4u16 {
+        let memory = vram(Filling::Runs, x);
+        let cgram = words(after(65536, x));
+        x = rows::forty(&memory, &cgram, filling, after(65792, x));
+    }
 }

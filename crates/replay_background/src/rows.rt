@@ -1,31 +1,18 @@
 // The rows of a scene.
-use crate::memory;
 use crate::scene;
-use bg_map::BgParams;
 use digest::fold;
-use generator::next;
-use generator::word;
 use laying::Candidates;
 use laying::CandidatesAnswer;
 use line::LinePixel;
 use line::Lines;
 use line::deposit;
 use line::inner::bg_index;
-use refusal::Verdict;
+use modes::inner::bg_params;
 use registers::PPURegisters;
-ghost use Prim.Native.Nat.{_<_};
-
-// A refusal writes a word that no list has.
-fn refused() {
-    io::write_all(1, b"refused ");
-}
-
-fn settle(verdict: Verdict) {
-    match verdict {
-        Verdict::Fine => {}
-        Verdict::Refused(_) => refused(),
-    }
-}
+use replay::drawing::after;
+use replay::drawing::ends;
+use replay::drawing::nth;
+use replay::hex;
 
 // Main's background and colour, then sub's colour.
 fn both(main: LinePixel, sub: LinePixel) -> u64 {
@@ -39,206 +26,136 @@ fn folded(digest: u32, lines: Lines) -> u32 {
     let main = lines.main;
     let sub = lines.sub;
     let mut d = digest;
-    for x in 0..256 {
+    for x in 0..256usize {
         d = fold(d, both(main[x], sub[x]));
     }
     d
 }
 
-// A background's bit of tm or of ts, set by the low bit of `on`.
-fn layer_bit(on: u8, bg: usize) -> u8 {
-    if on % 2 == 0 {
-        return 0;
-    }
-    match bg {
-        0 => 1,
-        1 => 2,
-        2 => 4,
-        _ => 8,
-    }
-}
+// The bits of the backgrounds in tm and ts, unlit and lit.
+const BITS: [u8; 8] = [0, 0, 0, 0, 1, 2, 4, 8];
 
 // The registers with background bg lit on main (1), on sub (2) or on both (3).
 fn lit(registers: PPURegisters, bg: usize, screens: u8) -> PPURegisters {
     let mut r = registers;
-    r.tm = layer_bit(screens, bg);
-    r.ts = layer_bit(screens / 2, bg);
+    r.tm = BITS[(screens % 2) as usize * 4 + bg % 4];
+    r.ts = BITS[(screens / 2 % 2) as usize * 4 + bg % 4];
     r
-}
-
-// The first word of a memory.
-fn first(words: &[u16]) -> u16 {
-    if 0 < words.len() { words[0] } else { 0 }
 }
 
 // The lines of row y with these screens lit, drawn over the backdrops.
 fn shown_lines(
     vram: &[u16],
-    cgram: &[u16],
+    cgram: &[u16; 256],
     registers: PPURegisters,
     bg: usize,
     screens: u8,
     y: usize,
-) -> Lines
-    requires { ⌜ bg < 4 ⌝ }
-{
+) -> Lines {
     let r = lit(registers, bg, screens);
-    let lines = Lines::backdrops(first(cgram), r.coldata);
-    let p = scene::params(r, bg);
-    let answer = background::render_bg_scanline(lines, vram, cgram, r, p, y);
+    let lines = Lines::backdrops(cgram[0], r.coldata);
+    let answer = background::render_bg_scanline(lines, vram, cgram, r, bg_params(r, bg % 4), y);
     let verdict = answer.verdict;
-    settle(verdict);
+    replay::settle(verdict);
     let after = answer.lines;
     after
 }
 
 // What a column shows after its candidates came.
-fn laid(main: LinePixel, sub: LinePixel, c: Candidates) -> u64 {
+fn laid(main: u16, sub: u16, c: Candidates) -> u64 {
     let over = c.main;
     let under = c.sub;
-    both(deposit(main, over), deposit(sub, under))
+    both(
+        deposit(LinePixel::backdrop(main), over),
+        deposit(LinePixel::backdrop(sub), under),
+    )
 }
 
-// A digest with one more number. Where it is not what the lines have, a word that no list has.
-fn checked(digest: u32, v: u64, has: u64) -> u32 {
-    if v != has {
-        io::write_all(1, b"differs ");
-    }
-    fold(digest, v)
-}
-
-// A digest with what column x shows by its candidates alone.
+// A digest with what column x shows by its candidates alone, which is what the lines have.
 fn asked(
     digest: u32,
     vram: &[u16],
-    cgram: &[u16],
+    cgram: &[u16; 256],
     r: PPURegisters,
-    p: BgParams,
+    bg: usize,
     x: usize,
     y: usize,
     has: u64,
 ) -> u32 {
-    let main = LinePixel::backdrop(first(cgram));
-    let sub = LinePixel::backdrop(r.coldata);
-    match background::bg_candidates(vram, cgram, r, p, x, y) {
-        CandidatesAnswer::Is(c) => checked(digest, laid(main, sub, c), has),
-        CandidatesAnswer::Refused(_) => {
-            refused();
+    let main = cgram[0];
+    match background::bg_candidates(vram, cgram, r, bg_params(r, bg % 4), x, y) {
+        CandidatesAnswer::Is(c) => {
+            let v = laid(main, r.coldata, c);
+            replay::agree(v == has);
+            fold(digest, v)
+        }
+        CandidatesAnswer::Refused(n) => {
+            say::refuse(n);
             digest
         }
     }
 }
 
-// The first column, the last one and any.
-fn column(k: u16, state: u32) -> usize
-    ensures { λ r. ⌜ r < 256 ⌝ }
-{
-    match k {
-        0 => 0,
-        1 => 255,
-        _ => (word(state) % 256) as usize,
-    }
-}
-
-// The generator's state, and a digest.
-struct Digested {
-    x: u32,
-    d: u32,
-}
-
-// A digest of row y at six columns, on both screens, whose lines these are.
+// A digest of row y at the first column, the last one and four others, on both screens, whose lines
+// these are.
 fn some(
     vram: &[u16],
-    cgram: &[u16],
+    cgram: &[u16; 256],
     registers: PPURegisters,
     bg: usize,
     y: usize,
     lines: Lines,
     seed: u32,
-) -> Digested
-    requires { ⌜ bg < 4 ⌝ }
-{
+) -> u32 {
     let r = lit(registers, bg, 3);
-    let p = scene::params(r, bg);
     let main = lines.main;
     let sub = lines.sub;
-    let mut state = seed;
     let mut d: u32 = 0;
-    for k in 0..6u16 {
-        state = next(state);
-        let x = column(k, state);
-        d = asked(d, vram, cgram, r, p, x, y, both(main[x], sub[x]));
+    for k in 0..6u32 {
+        let x = (ends(k, 255, nth(k + 1, seed)) % 256) as usize;
+        d = asked(d, vram, cgram, r, bg, x, y, both(main[x], sub[x]));
     }
-    Digested { x: state, d }
+    d
 }
 
-fn digits(v: u64, n: usize) {
-    io::print_hex(1, v, n);
-}
-
-// The first row, the last one and any.
-fn row_of(k: u16, drawn: u16) -> u16 {
-    match k {
-        0 => 0,
-        1 => 223,
-        _ => drawn % 224,
-    }
-}
-
-// A row and its counter; a digest of its lines on main alone, on sub alone and on both, and one of
-// some columns. The generator's state after it.
-fn row(vram: &[u16], cgram: &[u16], registers: PPURegisters, bg: usize, k: u16, seed: u32) -> u32
-    requires { ⌜ bg < 4 ⌝ }
-{
-    let a = next(seed);
-    let b = next(a);
-    let y = row_of(k, word(a));
-    let mut r = registers;
-    r.mosaic_vcounter = (word(b) % 17) as u8;
+// The first row, the last one or any, and its counter; a digest of its lines on main alone, on sub alone and on both, and one of
+// some columns. Eight numbers are drawn.
+fn row(vram: &[u16], cgram: &[u16; 256], registers: PPURegisters, bg: usize, k: u32, seed: u32) {
+    let y = ends(k, 223, nth(1, seed)) % 256;
+    let counter = (nth(2, seed) % 17) as u8;
+    hex(y as u64 * 256 + counter as u64, 4, b' ');
     let at = y as usize;
+    let mut r = registers;
+    r.mosaic_vcounter = counter;
     let on_main = folded(0, shown_lines(vram, cgram, r, bg, 1, at));
     let on_sub = folded(on_main, shown_lines(vram, cgram, r, bg, 2, at));
     let lines = shown_lines(vram, cgram, r, bg, 3, at);
-    let columns = some(vram, cgram, r, bg, at, lines, b);
-    digits(y as u64 * 256 + r.mosaic_vcounter as u64, 4);
-    io::write_all(1, b" ");
-    digits(folded(on_sub, lines) as u64, 8);
-    io::write_all(1, b" ");
-    digits(columns.d as u64, 8);
-    io::write_all(1, b"\n");
-    columns.x
+    hex(folded(on_sub, lines) as u64, 8, b' ');
+    let columns = some(vram, cgram, r, bg, at, lines, after(2, seed));
+    hex(columns as u64, 8, b'\n');
 }
 
 // A scene: bgmode, the background, mosaic; four rows.
-fn one_scene(vram: &[u16], cgram: &[u16], n: u16, seed: u32) -> u32 {
-    let drawn = scene::draw(n, seed);
-    let r = drawn.r;
+fn one_scene(vram: &[u16], cgram: &[u16; 256], n: u16, seed: u32) {
+    let r = scene::registers(n, seed);
     let bg = scene::background(r.bg_mode(), (n / 4) as usize);
-    digits(r.bgmode as u64, 2);
-    digits(bg as u64, 1);
-    digits(r.mosaic as u64, 2);
-    io::write_all(1, b"\n");
-    let mut x = drawn.x;
-    for k in 0..4u16 {
-        x = row(vram, cgram, r, bg, k, x);
+    io::print_hex(1, r.bgmode as u64, 2);
+    io::print_hex(1, bg as u64, 1);
+    hex(r.mosaic as u64, 2, b'\n');
+    let mut x = after(18, seed);
+    for k in 0..4u32 {
+        row(vram, cgram, r, bg, k, x);
+        x = after(8, x);
     }
-    x
 }
 
 // Forty scenes over one filling of the memories: the modes in turn, in each the backgrounds that it
-// has.
-fn forty(vram: &[u16], cgram: &[u16], filling: u16, seed: u32) -> u32 {
+// has. The generator's state after them.
+pub(crate) fn forty(vram: &[u16], cgram: &[u16; 256], filling: u16, seed: u32) -> u32 {
     let mut x = seed;
     for k in 0..40u16 {
-        x = one_scene(vram, cgram, filling % 4 * 40 + k, x);
+        one_scene(vram, cgram, filling % 4 * 40 + k, x);
+        x = after(50, x);
     }
     x
-}
-
-pub(crate) fn scenes(vram: &mut [u16], cgram: &mut [u16], seed: u32) {
-    let mut x = seed;
-    for filling in 0..4u16 {
-        x = memory::fill(vram, cgram, x);
-        x = forty(vram, cgram, filling, x);
-    }
 }

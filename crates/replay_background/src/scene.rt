@@ -1,181 +1,65 @@
-// The registers of a scene, and its background's parameters.
-use bg_map::BgParams;
-use bg_registers::inner::bg_scroll;
-use bg_registers::inner::bg_tile16;
-use bg_registers::inner::bg_tiledata_addr;
-use bg_registers::inner::bg_tilemap_addr;
-use bg_registers::inner::bg_tilemap_size;
-use generator::next;
-use generator::word;
-use line::Priority;
-use line::inner::from_bg;
-use mosaic::inner::bg_mosaic;
+// The registers of a scene.
 use registers::PPURegisters;
-use registers::inner::bit;
-use tiles::BitDepth;
-ghost use Prim.Native.Nat.{_<_};
-
-// The generator's state, and the registers that were drawn up to it.
-pub(crate) struct Drawn {
-    pub(crate) x: u32,
-    pub(crate) r: PPURegisters,
-}
-
-fn low(word: u16) -> u8 {
-    (word % 256) as u8
-}
-
-fn high(word: u16) -> u8 {
-    (word / 256) as u8
-}
+use replay::drawing::high;
+use replay::drawing::low;
+use replay::drawing::words;
 
 // Mode 0, mode 3, mode 1 and one of the modes that draw as mode 1, in turn.
-fn mode_of(n: u16) -> u8 {
-    match n % 20 {
-        0 | 4 | 8 | 12 | 16 => 0,
-        1 | 5 | 9 | 13 | 17 => 3,
-        2 | 6 | 10 | 14 | 18 => 1,
-        3 => 2,
-        7 => 4,
-        11 => 5,
-        15 => 6,
-        _ => 7,
-    }
+const MODES: [u8; 20] = [0, 3, 1, 2, 0, 3, 1, 4, 0, 3, 1, 5, 0, 3, 1, 6, 0, 3, 1, 7];
+
+// In some scenes all mosaics are on, their size is large and the vertical scrolls are small, so that
+// lines from above the map are shown.
+fn above(registers: PPURegisters) -> PPURegisters {
+    let mut r = registers;
+    let v = r.bgvofs;
+    r.mosaic = r.mosaic | 0x8f;
+    r.bg1vofs = r.bg1vofs % 4;
+    r.bgvofs = [v[0] % 4, v[1] % 4, v[2] % 4];
+    r
 }
 
-// A mosaic byte; with every mosaic on and a large size where lines from above the map are wanted.
-fn mosaic_of(byte: u8, above: bool) -> u8 {
-    if above { byte | 0x8f } else { byte }
-}
-
-// A vertical scroll; a small one there.
-fn scroll_of(word: u16, above: bool) -> u16 {
-    if above { word % 4 } else { word }
-}
-
-// Mode, mosaic, maps and characters of scene n.
-fn maps(n: u16, above: bool, seed: u32) -> Drawn {
+// Mode, mosaic, maps, characters and scrolls, for which twelve numbers are drawn.
+fn maps(n: u16, w: [u16; 256]) -> PPURegisters {
     let mut r = PPURegisters::new();
-    let a = next(seed);
-    let b = next(a);
-    let c = next(b);
-    let d = next(c);
-    r.bgmode = low(word(a)) / 8 * 8 + mode_of(n) % 8;
-    r.mosaic = mosaic_of(high(word(a)), above);
-    r.bgsc = [low(word(b)), high(word(b)), low(word(c)), high(word(c))];
-    r.bg12nba = low(word(d));
-    r.bg34nba = high(word(d));
-    Drawn { x: d, r }
+    r.bgmode = low(w[0]) / 8 * 8 + MODES[(n % 20) as usize] % 8;
+    r.mosaic = high(w[0]);
+    r.bgsc = [low(w[1]), high(w[1]), low(w[2]), high(w[2])];
+    r.bg12nba = low(w[3]);
+    r.bg34nba = high(w[3]);
+    r.bg1hofs = w[4];
+    r.bghofs = [w[5], w[6], w[7]];
+    r.bg1vofs = w[8];
+    r.bgvofs = [w[9], w[10], w[11]];
+    if n / 4 % 7 == 6 {
+        return above(r);
+    }
+    r
 }
 
-// With the scrolls.
-fn scrolls(registers: PPURegisters, above: bool, seed: u32) -> Drawn {
-    let mut r = registers;
-    let a = next(seed);
-    let b = next(a);
-    let c = next(b);
-    let d = next(c);
-    r.bg1hofs = word(a);
-    r.bghofs = [word(b), word(c), word(d)];
-    let e = next(d);
-    let f = next(e);
-    let g = next(f);
-    let h = next(g);
-    r.bg1vofs = scroll_of(word(e), above);
-    r.bgvofs = [
-        scroll_of(word(f), above),
-        scroll_of(word(g), above),
-        scroll_of(word(h), above),
-    ];
-    Drawn { x: h, r }
-}
-
-// With the windows and the fixed colour; direct colour off and on in turn.
-fn windows(registers: PPURegisters, n: u16, seed: u32) -> Drawn {
-    let mut r = registers;
-    let a = next(seed);
-    let b = next(a);
-    let c = next(b);
-    let d = next(c);
-    r.w12sel = low(word(a));
-    r.w34sel = high(word(a));
-    r.wh0 = low(word(b));
-    r.wh1 = high(word(b));
-    r.wh2 = low(word(c));
-    r.wh3 = high(word(c));
-    r.tmw = low(word(d));
-    r.tsw = high(word(d));
-    let e = next(d);
-    let f = next(e);
-    r.wbglog = low(word(e));
-    r.coldata = word(f);
+// Registers of every value, for which 18 numbers are drawn: the windows and the fixed colour too;
+// direct colour off and on in turn.
+pub(crate) fn registers(n: u16, seed: u32) -> PPURegisters {
+    let w = words(seed);
+    let mut r = maps(n, w);
+    r.w12sel = low(w[12]);
+    r.w34sel = high(w[12]);
+    r.wh0 = low(w[13]);
+    r.wh1 = high(w[13]);
+    r.wh2 = low(w[14]);
+    r.wh3 = high(w[14]);
+    r.tmw = low(w[15]);
+    r.tsw = high(w[15]);
+    r.wbglog = low(w[16]);
+    r.coldata = w[17];
     r.cgwsel = low(n / 8 % 2);
-    Drawn { x: f, r }
-}
-
-// Registers of every value. In some scenes all mosaics are on, their size is large and the vertical
-// scrolls are small, so that lines from above the map are shown.
-pub(crate) fn draw(n: u16, seed: u32) -> Drawn {
-    let above = n / 4 % 7 == 6;
-    let first = maps(n, above, seed);
-    let second = scrolls(first.r, above, first.x);
-    windows(second.r, n, second.x)
+    r
 }
 
 // Among the backgrounds of a mode, each in turn.
-pub(crate) fn background(mode: u8, turn: usize) -> usize
-    ensures { λ r. ⌜ r < 4 ⌝ }
-{
+pub(crate) fn background(mode: u8, turn: usize) -> usize {
     match mode {
         0 => turn % 4,
         3 => turn % 2,
         _ => turn % 3,
-    }
-}
-
-fn depth(mode: u8, bg: usize) -> BitDepth {
-    match mode {
-        0 => BitDepth::Two,
-        3 => if bg == 0 {
-            BitDepth::Eight
-        } else {
-            BitDepth::Four
-        },
-        _ => if bg < 2 {
-            BitDepth::Four
-        } else {
-            BitDepth::Two
-        },
-    }
-}
-
-// The background as its mode has it. The priorities are BG1's of mode 1 for all: over a backdrop none
-// shows.
-pub(crate) fn params(r: PPURegisters, bg: usize) -> BgParams
-    requires { ⌜ bg < 4 ⌝ }
-{
-    let mode = r.bg_mode();
-    let size = bg_tilemap_size(r, bg);
-    let scroll = bg_scroll(r, bg);
-    let bpp = depth(mode, bg);
-    let z_low = Priority::new(8);
-    let z_high = Priority::new(11);
-    let layer = from_bg(bg);
-    BgParams {
-        tilemap_base: bg_tilemap_addr(r, bg),
-        tiledata_base: bg_tiledata_addr(r, bg),
-        scroll_x: scroll.x,
-        scroll_y: scroll.y,
-        bpp,
-        own_palettes: mode == 0,
-        w64: size.w64,
-        h64: size.h64,
-        tile16: bg_tile16(r, bg),
-        mosaic: bg_mosaic(r, bg),
-        z_low,
-        z_high,
-        layer,
-        to_main: bit(r.tm, bg),
-        to_sub: bit(r.ts, bg),
     }
 }

@@ -1,5 +1,5 @@
-use Prim.Native.Nat.{_-_}
 use borrow.Author.Needs.{needs}
+use Prim.Native.Nat.{_-_}
 use Rattle.replay_background.proofs.rows.folded.Statement.{statement}
 use Rattle.replay_background.proofs.rows.folded.Tie as tie
 

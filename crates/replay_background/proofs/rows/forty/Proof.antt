@@ -1,5 +1,5 @@
-use Prim.Native.Nat.{_-_}
 use borrow.Author.Needs.{needs}
+use Prim.Native.Nat.{_-_}
 use Rattle.replay_background.proofs.rows.forty.Statement.{statement}
 use Rattle.replay_background.proofs.rows.forty.Tie as tie
 
@@ -18,6 +18,7 @@ forty-spec =
     (λ c. search needs)
     (λ c. search needs)
     (λ c. search needs)
+    (λ c κs. search needs)
     (λ c κs. search needs)
     (λ c. search needs)
     (λ c. search needs)

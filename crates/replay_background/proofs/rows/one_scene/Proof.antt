@@ -1,5 +1,5 @@
-use Prim.Native.Nat.{_-_}
 use borrow.Author.Needs.{needs}
+use Prim.Native.Nat.{_-_}
 use Rattle.replay_background.proofs.rows.one_scene.Statement.{statement}
 use Rattle.replay_background.proofs.rows.one_scene.Tie as tie
 
@@ -24,9 +24,9 @@ one-scene-spec =
     (λ c κs. search needs)
     (λ c. search needs)
     (λ c κs. search needs)
-    (λ c. search needs)
     (λ c κs. search needs)
     (λ c. search needs)
+    (λ c κs. search needs)
     (λ c κs. search needs)
     (λ c. search needs)
     (λ c. search needs)
