@@ -7,6 +7,8 @@ use line::LinePixel;
 use line::Lines;
 use line::Priority;
 use line::deposit;
+use replay::agree;
+use replay::same;
 ghost use Prim.Native.Nat.{_<_};
 
 // A third of a sprite's priority, 0 for the backdrop's, 7 for any other.
@@ -52,26 +54,17 @@ pub(crate) fn both(main: LinePixel, sub: LinePixel) -> u64 {
     whole(main) * 4294967296 + under
 }
 
-// Writes a word that no list has where two pixels differ.
-pub(crate) fn check(p: LinePixel, has: LinePixel) {
-    if whole(p) != whole(has) {
-        io::write_all(1, b"differs ");
-    }
-}
-
 // Sub's priority and math mark show in no picture: where it holds a sprite, they are the sprite line's.
 fn under(sub: LinePixel, c: Candidate) {
     let layer = sub.layer;
     let pixel = c.pixel;
-    if origin(layer) == 1 {
-        check(sub, pixel);
-    }
+    agree((origin(layer) != 1) | same(sub, pixel));
 }
 
 // A digest of the sprite line over a backdrop.
 pub(crate) fn line_digest(line: [Candidate; 256], backdrop: LinePixel) -> u32 {
     let mut d: u32 = 0;
-    for x in 0..256 {
+    for x in 0..256usize {
         d = fold(d, whole(deposit(backdrop, line[x])));
     }
     d
@@ -82,7 +75,7 @@ pub(crate) fn folded(digest: u32, lines: Lines, line: [Candidate; 256]) -> u32 {
     let main = lines.main;
     let sub = lines.sub;
     let mut d = digest;
-    for x in 0..256 {
+    for x in 0..256usize {
         under(sub[x], line[x]);
         d = fold(d, both(main[x], sub[x]));
     }

@@ -3,26 +3,18 @@ use crate::pixels;
 use crate::scene;
 use digest::fold;
 use digest::one;
-use generator::next;
-use generator::word;
 use laying::CandidatesAnswer;
 use line::Candidate;
 use line::LinePixel;
 use line::Lines;
 use line::deposit;
-use refusal::Verdict;
 use registers::PPURegisters;
-ghost use Prim.Native.Nat.{_<_};
-
-// A refusal writes a word that no list has.
-fn settle(verdict: Verdict) {
-    match verdict {
-        Verdict::Fine => {}
-        Verdict::Refused(_) => {
-            io::write_all(1, b"refused ");
-        }
-    }
-}
+use replay::agree;
+use replay::drawing::after;
+use replay::drawing::ends;
+use replay::drawing::nth;
+use replay::hex;
+use replay::same;
 
 // The sprite line of row y.
 fn line_of(
@@ -34,13 +26,20 @@ fn line_of(
 ) -> [Candidate; 256] {
     let answer = sprites::sprite_line(vram, cgram, oam, r, y);
     let verdict = answer.verdict;
-    settle(verdict);
+    replay::settle(verdict);
     let line = answer.line;
     line
 }
 
-// The lines of row y with the sprites on neither screen (0), on main (1), on sub (2) or on both (3),
-// drawn over the backdrops.
+// The registers with the sprites on neither screen (0), on main (1), on sub (2) or on both (3).
+fn lit(registers: PPURegisters, screens: u8) -> PPURegisters {
+    let mut r = registers;
+    r.tm = screens % 2 * 16;
+    r.ts = screens / 2 % 2 * 16;
+    r
+}
+
+// The lines of row y with these screens lit, drawn over the backdrops.
 fn shown_lines(
     vram: &[u16],
     cgram: &[u16; 256],
@@ -49,13 +48,11 @@ fn shown_lines(
     screens: u8,
     y: usize,
 ) -> Lines {
-    let mut r = registers;
-    r.tm = screens % 2 * 16;
-    r.ts = screens / 2 % 2 * 16;
+    let r = lit(registers, screens);
     let lines = Lines::backdrops(cgram[0], r.coldata);
     let answer = sprites::render_sprites(lines, vram, cgram, oam, r, y);
     let verdict = answer.verdict;
-    settle(verdict);
+    replay::settle(verdict);
     let after = answer.lines;
     after
 }
@@ -65,137 +62,101 @@ fn asked(
     vram: &[u16],
     cgram: &[u16; 256],
     oam: &[u8],
-    registers: PPURegisters,
+    r: PPURegisters,
     x: usize,
     y: usize,
     main: LinePixel,
     sub: LinePixel,
 ) {
-    let mut r = registers;
-    r.tm = 16;
-    r.ts = 16;
     let over = LinePixel::backdrop(cgram[0]);
     let under = LinePixel::backdrop(r.coldata);
     match sprites::sprite_candidates(vram, cgram, oam, r, x, y) {
         CandidatesAnswer::Is(c) => {
             let on_main = c.main;
             let on_sub = c.sub;
-            pixels::check(main, deposit(over, on_main));
-            pixels::check(sub, deposit(under, on_sub));
+            agree(same(main, deposit(over, on_main)) & same(sub, deposit(under, on_sub)));
         }
-        CandidatesAnswer::Refused(_) => {
-            io::write_all(1, b"refused ");
+        CandidatesAnswer::Refused(n) => {
+            say::refuse(n);
         }
     }
 }
 
-// The first column, the last one and any.
-fn column(k: u16, state: u32) -> usize
-    ensures { λ r. ⌜ r < 256 ⌝ }
-{
-    match k {
-        0 => 0,
-        1 => 255,
-        _ => (word(state) % 256) as usize,
-    }
-}
-
-// The generator's state, and a digest.
-struct Digested {
-    x: u32,
-    d: u32,
-}
-
-// A digest of row y at six columns, on both screens, whose lines these are.
+// A digest of row y at the first column, the last one and four others, on both screens, whose lines
+// these are.
 fn some(
     vram: &[u16],
     cgram: &[u16; 256],
     oam: &[u8],
-    r: PPURegisters,
+    registers: PPURegisters,
     y: usize,
     lines: Lines,
     seed: u32,
-) -> Digested {
+) -> u32 {
+    let r = lit(registers, 3);
     let main = lines.main;
     let sub = lines.sub;
-    let mut state = seed;
     let mut d: u32 = 0;
-    for k in 0..6u16 {
-        state = next(state);
-        let x = column(k, state);
+    for k in 0..6u32 {
+        let x = (ends(k, 255, nth(k + 1, seed)) % 256) as usize;
         asked(vram, cgram, oam, r, x, y, main[x], sub[x]);
         d = fold(d, pixels::both(main[x], sub[x]));
     }
-    Digested { x: state, d }
-}
-
-// A space and a digest.
-fn say(digest: u32) {
-    io::write_all(1, b" ");
-    io::print_hex(1, digest as u64, 8);
+    d
 }
 
 // A row below the first and oamadd; a digest of the sprite line, one of the lines on neither screen, on
-// main, on sub and on both, and one of some columns. The generator's state after it.
-fn row(
-    vram: &[u16],
-    cgram: &[u16; 256],
-    oam: &[u8],
-    registers: PPURegisters,
-    first: u16,
-    below: u16,
-    seed: u32,
-) -> u32 {
-    let y = (first as u64 + below as u64) % 224;
-    let a = next(seed);
-    io::print_hex(1, y * 65536 + word(a) as u64, 6);
+// main, on sub and on both, and one of some columns. Seven numbers are drawn.
+fn row(vram: &[u16], cgram: &[u16; 256], oam: &[u8], registers: PPURegisters, y: usize, seed: u32) {
     let mut r = registers;
-    r.oamadd = word(a);
-    let at = y as usize;
-    let line = line_of(vram, cgram, oam, r, at);
-    let none = pixels::folded(0, shown_lines(vram, cgram, oam, r, 0, at), line);
-    let on_main = pixels::folded(none, shown_lines(vram, cgram, oam, r, 1, at), line);
-    let on_sub = pixels::folded(on_main, shown_lines(vram, cgram, oam, r, 2, at), line);
-    let lines = shown_lines(vram, cgram, oam, r, 3, at);
-    let columns = some(vram, cgram, oam, r, at, lines, a);
-    say(pixels::line_digest(line, LinePixel::backdrop(cgram[0])));
-    say(pixels::folded(on_sub, lines, line));
-    say(columns.d);
-    io::write_all(1, b"\n");
-    columns.x
+    r.oamadd = nth(1, seed);
+    let line = line_of(vram, cgram, oam, r, y);
+    let none = pixels::folded(0, shown_lines(vram, cgram, oam, r, 0, y), line);
+    let on_main = pixels::folded(none, shown_lines(vram, cgram, oam, r, 1, y), line);
+    let on_sub = pixels::folded(on_main, shown_lines(vram, cgram, oam, r, 2, y), line);
+    let lines = shown_lines(vram, cgram, oam, r, 3, y);
+    let columns = some(vram, cgram, oam, r, y, lines, after(1, seed));
+    hex(
+        pixels::line_digest(line, LinePixel::backdrop(cgram[0])) as u64,
+        8,
+        b' ',
+    );
+    hex(pixels::folded(on_sub, lines, line) as u64, 8, b' ');
+    hex(columns as u64, 8, b'\n');
 }
 
 // A scene's line: objsel, setini, the field and the kind.
 fn head(objsel: u8, setini: u8, field: bool, kind: u16) {
     io::print_hex(1, objsel as u64 * 256 + setini as u64, 4);
     io::print_hex(1, one(field), 1);
-    io::print_hex(1, kind as u64, 1);
-    io::write_all(1, b"\n");
+    hex(kind as u64, 1, b'\n');
 }
+
+// The rows that are drawn, counted from a scene's first.
+const BELOW: [u16; 4] = [0, 1, 4, 9];
 
 // A scene: its line, and four rows.
-fn one_scene(vram: &[u16], cgram: &[u16; 256], n: u16, seed: u32) -> u32 {
-    let drawn = scene::registers(n, seed);
-    let r = drawn.r;
+fn one_scene(vram: &[u16], cgram: &[u16; 256], n: u16, seed: u32) {
+    let r = scene::registers(n, seed);
     let kind = n / 32;
     head(r.objsel, r.setini, r.field, kind);
-    let a = next(drawn.x);
-    let b = next(a);
-    let first = scene::first_of(kind, word(a));
-    let below = [0u16, 1, 4, 9];
-    let mut oam = [0u8; 544];
-    let mut x = scene::fill(&mut oam, kind, first, word(b), b);
-    for k in 0..4 {
-        x = row(vram, cgram, &oam, r, first, below[k], x);
+    let first = scene::first_of(kind, nth(7, seed));
+    let oam = scene::fill(kind, first, nth(8, seed), after(8, seed));
+    let mut x = after(520, seed);
+    for k in 0..4usize {
+        let y = (first as u16 + BELOW[k] % 16) % 224;
+        hex(y as u64 * 65536 + nth(1, x) as u64, 6, b' ');
+        row(vram, cgram, &oam, r, y as usize, x);
+        x = after(7, x);
     }
-    x
 }
 
-// Forty scenes over one filling of the memories.
+// Forty scenes over one filling of the memories. The generator's state after them.
 pub(crate) fn forty(vram: &[u16], cgram: &[u16; 256], filling: u16, seed: u32) -> u32 {
     let mut x = seed;
     for k in 0..40u16 {
-        x = one_scene(vram, cgram, filling % 4 * 40 + k, x);
+        one_scene(vram, cgram, filling % 4 * 40 + k, x);
+        x = after(548, x);
     }
     x
 }

@@ -1,15 +1,13 @@
 use borrow.Author.Needs.{needs}
 use Prim.Native.Nat.{_-_}
-use lib.ListN.{length}
-use mathlib.Core.Path.{_≡_}
 use Rattle.replay_sprites.proofs.scene.fill.Statement.{statement}
 use Rattle.replay_sprites.proofs.scene.fill.Tie as tie
 
 abbrev Inv-loop : tie.InvT-loop
-Inv-loop oam₀ kind first drawn seed x₀ i₀ oam x i = length oam ≡ length oam₀
+Inv-loop kind first about seed oam₀ x₀ i₀ oam x i = Unit {0}
 
 abbrev μ-loop : tie.MeasureT-loop
-μ-loop oam₀ kind first drawn seed x₀ i₀ oam x i = 128 - i
+μ-loop kind first about seed oam₀ x₀ i₀ oam x i = 128 - i
 
 pub fill-spec : {M : Type 1} → statement M
 fill-spec =
@@ -23,13 +21,6 @@ fill-spec =
     (λ c κs. search needs)
     (λ c κs. search needs)
     (λ c κs. search needs)
-    (λ c κs. search needs)
-    (λ c κs. search needs)
-    (λ c κs. search needs)
-    (λ c κs. search needs)
-    (λ c κs. search needs)
-    (λ c κs. search needs)
-    (λ c. search needs)
     (λ c. search needs)
     (λ c. search needs)
     (λ c. search needs)
