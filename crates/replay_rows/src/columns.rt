@@ -1,12 +1,11 @@
 // Columns that are asked layer by layer, without the lines.
-use digest::one;
 use laying::Candidates;
 use laying::CandidatesAnswer;
 use line::LinePixel;
 use line::Lines;
 use line::deposit;
-use line::inner::bg_index;
 use registers::PPURegisters;
+use replay::same;
 
 // What a column holds on both screens.
 struct Pixels {
@@ -38,52 +37,41 @@ fn with_layer(
 ) -> Pixels {
     match layers::layer_candidates(vram, cgram, oam, r, x, y, layer) {
         CandidatesAnswer::Is(c) => laid(held, c),
-        CandidatesAnswer::Refused(_) => {
-            io::write_all(1, b"refused ");
+        CandidatesAnswer::Refused(n) => {
+            say::refuse(n);
             held
         }
     }
 }
 
-// The first word of a memory.
-fn first(words: &[u16]) -> u16 {
-    if 0 < words.len() { words[0] } else { 0 }
-}
-
-fn column(vram: &[u16], cgram: &[u16], oam: &[u8], r: PPURegisters, x: usize, y: usize) -> Pixels {
-    let main = LinePixel::backdrop(first(cgram));
+// Column x of row y, which the lines hold so.
+fn column(
+    vram: &[u16],
+    cgram: &[u16; 256],
+    oam: &[u8],
+    r: PPURegisters,
+    x: usize,
+    y: usize,
+    over: LinePixel,
+    under: LinePixel,
+) {
+    let main = LinePixel::backdrop(cgram[0]);
     let sub = LinePixel::backdrop(r.coldata);
     let mut held = Pixels { main, sub };
     for layer in 0..5usize {
         let more = with_layer(held, vram, cgram, oam, r, x, y, layer);
         held = more;
     }
-    held
-}
-
-fn same(a: LinePixel, b: LinePixel) -> bool {
-    let near = a.z;
-    let far = b.z;
-    let first = a.layer;
-    let second = b.layer;
-    let places = near.covers(far) & far.covers(near) & (bg_index(first) == bg_index(second));
-    places & (a.color == b.color) & (one(a.obj_math) == one(b.obj_math))
-}
-
-// Writes a word that no list has where a column is not what the lines hold.
-fn compare(held: Pixels, over: LinePixel, under: LinePixel) {
-    let main = held.main;
-    let sub = held.sub;
-    if !(same(main, over) & same(sub, under)) {
-        io::write_all(1, b"differs ");
-    }
+    let first = held.main;
+    let second = held.sub;
+    replay::agree(same(first, over) & same(second, under));
 }
 
 // Eight columns of row y, whose lines these are.
 pub(crate) fn check(
     lines: Lines,
     vram: &[u16],
-    cgram: &[u16],
+    cgram: &[u16; 256],
     oam: &[u8],
     r: PPURegisters,
     y: usize,
@@ -92,6 +80,6 @@ pub(crate) fn check(
     let sub = lines.sub;
     for k in 0..8usize {
         let x = (k * 37 + y % 256) % 256;
-        compare(column(vram, cgram, oam, r, x, y), main[x], sub[x]);
+        column(vram, cgram, oam, r, x, y, main[x], sub[x]);
     }
 }

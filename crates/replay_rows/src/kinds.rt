@@ -1,87 +1,12 @@
 // The kinds of scenes: what each has of the registers, and what changes from row to row.
 use registers::PPURegisters;
 
-// Any registers; in half of the scenes BG1 and sprites are lit, and main is kept.
-fn any(registers: PPURegisters, turn: u8) -> PPURegisters {
-    if turn % 2 == 1 {
-        return registers;
-    }
-    let mut r = registers;
-    r.tm = r.tm | 0x11;
-    r.cgwsel = r.cgwsel % 64;
-    r
-}
-
-// Backgrounds, at every brightness.
-fn backgrounds(registers: PPURegisters) -> PPURegisters {
-    let mut r = registers;
-    r.tm = r.tm | 0x0f;
-    r.tmw = 0;
-    r.tsw = 0;
-    r.cgadsub = 0;
-    r.cgwsel = r.cgwsel % 64;
-    r
-}
-
-// Crowds of sprites.
-fn crowds(registers: PPURegisters, turn: u8) -> PPURegisters {
-    let mut r = registers;
-    r.tm = r.tm | 0x10;
-    r.objsel = turn % 8 * 32 + r.objsel % 32;
-    r.cgwsel = r.cgwsel % 64;
-    r
-}
-
-// Windows.
-fn windows(registers: PPURegisters, turn: u8) -> PPURegisters {
-    let mut r = registers;
-    r.w12sel = r.w12sel | 0xaa;
-    r.w34sel = r.w34sel | 0xaa;
-    r.wobjsel = r.wobjsel | 0xaa;
-    r.tm = r.tm | 0x1f;
-    r.cgwsel = turn % 12 * 16 + r.cgwsel % 16;
-    r
-}
-
-// Colour math, at every setting.
-fn math(registers: PPURegisters) -> PPURegisters {
-    let mut r = registers;
-    r.tm = r.tm | 0x11;
-    r.wobjsel = r.wobjsel | 0x20;
-    r.wh0 = r.wh0 % 128;
-    r.wh1 = r.wh1 | 128;
-    r
-}
-
 // Vertical scrolls so small that lines from above the map are shown.
 fn above(registers: PPURegisters) -> PPURegisters {
     let mut r = registers;
     let v = r.bgvofs;
     r.bg1vofs = r.bg1vofs % 4;
     r.bgvofs = [v[0] % 4, v[1] % 4, v[2] % 4];
-    r
-}
-
-// Mosaics of every size.
-fn mosaics(registers: PPURegisters, turn: u8) -> PPURegisters {
-    let mut r = registers;
-    r.tm = r.tm | 0x0f;
-    r.mosaic = turn % 16 * 16 + 15;
-    r.cgwsel = r.cgwsel % 64;
-    if turn % 2 == 1 {
-        return above(r);
-    }
-    r
-}
-
-// Direct colour, and sprites in interlace.
-fn direct(registers: PPURegisters, turn: u8) -> PPURegisters {
-    let mut r = registers;
-    r.bgmode = r.bgmode / 8 * 8 + 3;
-    r.cgwsel = r.cgwsel % 64 | 1;
-    r.tm = r.tm | 0x11;
-    r.setini = r.setini | 2;
-    r.objsel = turn / 2 % 8 * 32 + r.objsel % 32;
     r
 }
 
@@ -101,56 +26,97 @@ fn picture(registers: PPURegisters, turn: u8) -> PPURegisters {
 }
 
 // The registers of a scene of a kind, for the turn-th time.
-pub(crate) fn turned(r: PPURegisters, kind: u16, turn: u8) -> PPURegisters {
+pub(crate) fn turned(registers: PPURegisters, kind: u16, turn: u8) -> PPURegisters {
+    let mut r = registers;
     match kind {
-        0 => any(r, turn),
-        1 => backgrounds(r),
-        2 => crowds(r, turn),
-        3 => windows(r, turn),
-        4 => math(r),
-        5 => mosaics(r, turn),
-        6 => direct(r, turn),
+        // Any registers; in half of the scenes BG1 and sprites are lit, and main is kept.
+        0 => {
+            if turn % 2 == 1 {
+                return r;
+            }
+            r.tm = r.tm | 0x11;
+            r.cgwsel = r.cgwsel % 64;
+            r
+        }
+        // Backgrounds, at every brightness.
+        1 => {
+            r.tm = r.tm | 0x0f;
+            r.tmw = 0;
+            r.tsw = 0;
+            r.cgadsub = 0;
+            r.cgwsel = r.cgwsel % 64;
+            r
+        }
+        // Crowds of sprites.
+        2 => {
+            r.tm = r.tm | 0x10;
+            r.objsel = turn % 8 * 32 + r.objsel % 32;
+            r.cgwsel = r.cgwsel % 64;
+            r
+        }
+        // Windows.
+        3 => {
+            r.w12sel = r.w12sel | 0xaa;
+            r.w34sel = r.w34sel | 0xaa;
+            r.wobjsel = r.wobjsel | 0xaa;
+            r.tm = r.tm | 0x1f;
+            r.cgwsel = turn % 12 * 16 + r.cgwsel % 16;
+            r
+        }
+        // Colour math, at every setting.
+        4 => {
+            r.tm = r.tm | 0x11;
+            r.wobjsel = r.wobjsel | 0x20;
+            r.wh0 = r.wh0 % 128;
+            r.wh1 = r.wh1 | 128;
+            r
+        }
+        // Mosaics of every size.
+        5 => {
+            r.tm = r.tm | 0x0f;
+            r.mosaic = turn % 16 * 16 + 15;
+            r.cgwsel = r.cgwsel % 64;
+            if turn % 2 == 1 {
+                return above(r);
+            }
+            r
+        }
+        // Direct colour, and sprites in interlace.
+        6 => {
+            r.bgmode = r.bgmode / 8 * 8 + 3;
+            r.cgwsel = r.cgwsel % 64 | 1;
+            r.tm = r.tm | 0x11;
+            r.setini = r.setini | 2;
+            r.objsel = turn / 2 % 8 * 32 + r.objsel % 32;
+            r
+        }
         _ => picture(r, turn),
     }
 }
 
-fn lit(registers: PPURegisters, y: u8) -> PPURegisters {
-    let mut r = registers;
-    r.inidisp = y % 16;
-    r
-}
-
-fn narrowed(registers: PPURegisters, y: u8) -> PPURegisters {
-    let mut r = registers;
-    r.wobjlog = y % 16;
-    r.wh0 = y;
-    r.wh1 = 255 - y;
-    r
-}
-
-fn mixed(registers: PPURegisters, y: u8) -> PPURegisters {
-    let mut r = registers;
-    r.cgwsel = y % 16 * 16 + y / 16 % 2 * 2 + r.cgwsel % 2;
-    r.cgadsub = y / 32 % 4 * 64 + r.cgadsub % 64;
-    r
-}
-
-// What changes from row to row: brightness; the colour window's logic and window 1; the settings of
-// colour math.
-fn changed(r: PPURegisters, kind: u16, y: u8) -> PPURegisters {
-    match kind {
-        1 => lit(r, y),
-        3 => narrowed(r, y),
-        4 => mixed(r, y),
-        _ => r,
-    }
-}
-
-// The registers at row y, with its counter.
+// The registers at row y, with its counter. What changes from row to row: brightness; the colour
+// window's logic and window 1; the settings of colour math.
 pub(crate) fn at_row(registers: PPURegisters, kind: u16, y: u8, counter: u8) -> PPURegisters {
     let mut r = registers;
     r.mosaic_vcounter = counter;
-    changed(r, kind, y)
+    match kind {
+        1 => {
+            r.inidisp = y % 16;
+            r
+        }
+        3 => {
+            r.wobjlog = y % 16;
+            r.wh0 = y;
+            r.wh1 = 255 - y;
+            r
+        }
+        4 => {
+            r.cgwsel = y % 16 * 16 + y / 16 % 2 * 2 + r.cgwsel % 2;
+            r.cgadsub = y / 32 % 4 * 64 + r.cgadsub % 64;
+            r
+        }
+        _ => r,
+    }
 }
 
 // The mosaic counter after a row.

@@ -1,49 +1,19 @@
-// The registers of a scene, of every value.
-use generator::next;
-use generator::word;
+// The registers of a scene, of every value, and its sprites.
 use registers::PPURegisters;
-
-// The generator's state, and the registers that were drawn up to it.
-pub(crate) struct Drawn {
-    pub(crate) x: u32,
-    pub(crate) r: PPURegisters,
-}
-
-fn low(word: u16) -> u8 {
-    (word % 256) as u8
-}
-
-fn high(word: u16) -> u8 {
-    (word / 256) as u8
-}
-
-// One of the modes that draw as mode 1.
-fn like_1(turn: u16) -> u8 {
-    match turn % 5 {
-        0 => 2,
-        1 => 4,
-        2 => 5,
-        3 => 6,
-        _ => 7,
-    }
-}
+use replay::drawing::drawn;
+use replay::drawing::high;
+use replay::drawing::low;
+use replay::drawing::words;
+use replay::placing::Place;
+use replay::placing::column;
+use replay::placing::with;
 
 // Modes 0, 1 and 3 and one of the modes that draw as mode 1, in turn.
-fn mode_of(turn: u16) -> u8 {
-    match turn % 4 {
-        0 => 0,
-        1 => 1,
-        2 => 3,
-        _ => like_1(turn / 4),
-    }
-}
+const MODES: [u8; 20] = [0, 1, 3, 2, 0, 1, 3, 4, 0, 1, 3, 5, 0, 1, 3, 6, 0, 1, 3, 7];
 
 // Forced blank in two scenes; the full brightness in half of the others, 4 or more in the rest.
-fn light(n: u16, byte: u8) -> u8 {
-    if n == 40 {
-        return byte | 128;
-    }
-    if n == 101 {
+fn light(n: usize, byte: u8) -> u8 {
+    if (n == 40) | (n == 101) {
         return byte | 128;
     }
     if n / 8 % 2 == 0 {
@@ -52,95 +22,79 @@ fn light(n: u16, byte: u8) -> u8 {
     byte % 128 / 16 * 16 + 4 + byte % 12
 }
 
-// Brightness, sprites, mode, mosaic, the counter and the field of scene n.
-fn screen(n: u16, seed: u32) -> Drawn {
+// Brightness, sprites, mode, mosaic, the counter, the field, the maps, the tiles and the scrolls.
+fn layers(n: usize, w: [u16; 256]) -> PPURegisters {
     let mut r = PPURegisters::new();
-    let a = next(seed);
-    let b = next(a);
-    let c = next(b);
-    let d = next(c);
-    r.inidisp = light(n, low(word(a)));
-    r.objsel = high(word(a));
-    r.oamadd = word(b);
-    r.bgmode = low(word(c)) / 8 * 8 + mode_of(n / 8 + n % 8) % 8;
-    r.mosaic = high(word(c));
-    r.mosaic_vcounter = low(word(d)) % 17;
-    r.field = word(d) / 256 % 2 == 1;
-    Drawn { x: d, r }
+    r.inidisp = light(n, low(w[0]));
+    r.objsel = high(w[0]);
+    r.oamadd = w[1];
+    r.bgmode = low(w[2]) / 8 * 8 + MODES[(n / 8 + n % 8) % 20] % 8;
+    r.mosaic = high(w[2]);
+    r.mosaic_vcounter = low(w[3]) % 17;
+    r.field = w[3] / 256 % 2 == 1;
+    r.bgsc = [low(w[4]), high(w[4]), low(w[5]), high(w[5])];
+    r.bg12nba = low(w[6]);
+    r.bg34nba = high(w[6]);
+    r.bg1hofs = w[7];
+    r.bghofs = [w[8], w[9], w[10]];
+    r.bg1vofs = w[11];
+    r.bgvofs = [w[12], w[13], w[14]];
+    r
 }
 
-// With the maps and the tiles.
-fn maps(registers: PPURegisters, seed: u32) -> Drawn {
-    let mut r = registers;
-    let a = next(seed);
-    let b = next(a);
-    let c = next(b);
-    r.bgsc = [low(word(a)), high(word(a)), low(word(b)), high(word(b))];
-    r.bg12nba = low(word(c));
-    r.bg34nba = high(word(c));
-    Drawn { x: c, r }
+// The registers of scene n, of 24 numbers: the windows, the screens and colour math too.
+pub(crate) fn registers(n: usize, seed: u32) -> PPURegisters {
+    let w = words(seed);
+    let mut r = layers(n, w);
+    r.w12sel = low(w[15]);
+    r.w34sel = high(w[15]);
+    r.wobjsel = low(w[16]);
+    r.wobjlog = high(w[16]);
+    r.wh0 = low(w[17]);
+    r.wh1 = high(w[17]);
+    r.wh2 = low(w[18]);
+    r.wh3 = high(w[18]);
+    r.wbglog = low(w[19]);
+    r.setini = high(w[19]);
+    r.tm = low(w[20]);
+    r.ts = high(w[20]);
+    r.tmw = low(w[21]);
+    r.tsw = high(w[21]);
+    r.cgwsel = low(w[22]);
+    r.cgadsub = high(w[22]);
+    r.coldata = w[23];
+    r
 }
 
-// With the scrolls.
-fn scrolls(registers: PPURegisters, seed: u32) -> Drawn {
-    let mut r = registers;
-    let a = next(seed);
-    let b = next(a);
-    let c = next(b);
-    let d = next(c);
-    r.bg1hofs = word(a);
-    r.bghofs = [word(b), word(c), word(d)];
-    let e = next(d);
-    let f = next(e);
-    let g = next(f);
-    let h = next(g);
-    r.bg1vofs = word(e);
-    r.bgvofs = [word(f), word(g), word(h)];
-    Drawn { x: h, r }
+// A sprite of a crowd stands at an edge or across the picture. Of a picture's sprites three of four
+// stand left of it.
+fn place(kind: u16, a: u16) -> Place {
+    if (kind == 2) & (a / 64 % 2 == 0) {
+        return Place::Edge;
+    }
+    if kind == 2 {
+        return Place::Across;
+    }
+    if (kind == 7) & (a / 64 % 4 != 0) {
+        return Place::Hidden;
+    }
+    Place::Any
 }
 
-// With the windows and setini.
-fn windows(registers: PPURegisters, seed: u32) -> Drawn {
-    let mut r = registers;
-    let a = next(seed);
-    let b = next(a);
-    let c = next(b);
-    let d = next(c);
-    let e = next(d);
-    r.w12sel = low(word(a));
-    r.w34sel = high(word(a));
-    r.wobjsel = low(word(b));
-    r.wobjlog = high(word(b));
-    r.wh0 = low(word(c));
-    r.wh1 = high(word(c));
-    r.wh2 = low(word(d));
-    r.wh3 = high(word(d));
-    r.wbglog = low(word(e));
-    r.setini = high(word(e));
-    Drawn { x: e, r }
+fn top(kind: u16, turn: u16, c: u16) -> u16 {
+    if kind == 2 { turn % 4 * 48 + c % 64 } else { c }
 }
 
-// With the screens and colour math.
-fn screens(registers: PPURegisters, seed: u32) -> Drawn {
-    let mut r = registers;
-    let a = next(seed);
-    let b = next(a);
-    let c = next(b);
-    let d = next(c);
-    r.tm = low(word(a));
-    r.ts = high(word(a));
-    r.tmw = low(word(b));
-    r.tsw = high(word(b));
-    r.cgwsel = low(word(c));
-    r.cgadsub = high(word(c));
-    r.coldata = word(d);
-    Drawn { x: d, r }
-}
-
-pub(crate) fn draw(n: u16, seed: u32) -> Drawn {
-    let first = screen(n, seed);
-    let second = maps(first.r, first.x);
-    let third = scrolls(second.r, second.x);
-    let fourth = windows(third.r, third.x);
-    screens(fourth.r, fourth.x)
+// Sprite memory, for which 512 numbers are drawn.
+pub(crate) fn sprites(kind: u16, turn: u16, seed: u32) -> [u8; 544] {
+    let mut oam = [0u8; 544];
+    let mut x = seed;
+    for i in 0..128usize {
+        let n = drawn(x);
+        let x9 = column(place(kind, n.a), n.a, n.b);
+        let more = with(oam, i, x9, top(kind, turn, n.c), n.d, n.a / 32 % 2 == 1);
+        oam = more;
+        x = n.x;
+    }
+    oam
 }

@@ -1,15 +1,13 @@
 use borrow.Author.Needs.{needs}
 use Prim.Native.Nat.{_-_}
-use lib.ListN.{length}
-use mathlib.Core.Path.{_≡_}
 use Rattle.replay_rows.proofs.rows.sixteen.Statement.{statement}
 use Rattle.replay_rows.proofs.rows.sixteen.Tie as tie
 
 abbrev Inv-loop : tie.InvT-loop
-Inv-loop picture₀ other vram cgram filling seed x₀ k₀ picture x k = length picture ≡ length picture₀
+Inv-loop vram cgram filling seed x₀ k₀ x k = Unit {0}
 
 abbrev μ-loop : tie.MeasureT-loop
-μ-loop picture₀ other vram cgram filling seed x₀ k₀ picture x k = 16 - k
+μ-loop vram cgram filling seed x₀ k₀ x k = 16 - k
 
 pub sixteen-spec : {M : Type 1} → statement M
 sixteen-spec =
@@ -21,7 +19,7 @@ sixteen-spec =
     (λ c. search needs)
     (λ c. search needs)
     (λ c κs. search needs)
-    (λ c. search needs)
+    (λ c κs. search needs)
     (λ c. search needs)
     (λ c. search needs)
     (λ c. search needs)

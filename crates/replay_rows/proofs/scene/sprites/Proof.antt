@@ -1,7 +1,7 @@
 use borrow.Author.Needs.{needs}
 use Prim.Native.Nat.{_-_}
-use Rattle.replay_rows.proofs.sprite_memory.sprites.Statement.{statement}
-use Rattle.replay_rows.proofs.sprite_memory.sprites.Tie as tie
+use Rattle.replay_rows.proofs.scene.sprites.Statement.{statement}
+use Rattle.replay_rows.proofs.scene.sprites.Tie as tie
 
 abbrev Inv-loop : tie.InvT-loop
 Inv-loop kind turn seed oam₀ x₀ i₀ oam x i = Unit {0}
@@ -16,13 +16,6 @@ sprites-spec =
     Inv-loop
     μ-loop
     (λ c. search needs)
-    (λ c κs. search needs)
-    (λ c κs. search needs)
-    (λ c κs. search needs)
-    (λ c κs. search needs)
-    (λ c κs. search needs)
-    (λ c κs. search needs)
-    (λ c κs. search needs)
     (λ c κs. search needs)
     (λ c κs. search needs)
     (λ c κs. search needs)
