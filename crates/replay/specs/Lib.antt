@@ -2,3 +2,5 @@ pub mod Replay
 pub mod Drawing
 pub mod Memory
 pub mod Placing
+pub mod Section
+pub mod Pixels

@@ -1,16 +1,12 @@
--- The seed of a list, a digest of bytes, and what makes two pixels the same.
+-- The seed of a list, and a digest of bytes.
 use Prim.Native.Nat.{ℕ, _+_, _<_}
 use mathlib.Core.Path.{_≡_}
-use mathlib.Core.Bool.{Bool, _&&_}
 use mathlib.Core.List.{List, [], _∷_}
 use native.Mathlib.Numerals.{add-one}
 use lib.ListN.{length, getD, drop}
 use lib.Seq.{drop-cons, drop-length}
-use lib.Dec.{eqb, leb}
 use Rattle.generator.specs.Generator.{seedOf}
-use Rattle.digest.specs.Digest.{folded, oneOf}
-use Rattle.line.specs.Pixels.{backgroundOf}
-use Rattle.line.specs.declared.LinePixel.{LinePixel}
+use Rattle.digest.specs.Digest.{folded}
 
 -- r is the seed that some bytes give: which were read is in no contract
 pub record Seeded (own r : ℕ) : Type 0 where
@@ -30,10 +26,3 @@ module _ (l : List ℕ) (d : ℕ) where
   pub digest-all : digestOf d (drop (length l) l) ≡ d
   unfolding digestOf
   digest-all = rw drop-length
-
--- priority, background, colour and math mark
-abbrev pub sameOf : LinePixel → LinePixel → Bool
-sameOf a b =
-    (((leb (b .z .0) (a .z .0) && leb (a .z .0) (b .z .0)) && eqb (backgroundOf (a .layer)) (backgroundOf (b .layer)))
-    && eqb (a .color) (b .color))
-    && eqb (oneOf (a .«obj_math»)) (oneOf (b .«obj_math»))

@@ -4,17 +4,16 @@
 // No contract can say what is read or written. A function that writes hands on what it was given.
 pub mod drawing;
 pub mod memory;
+pub mod pixels;
 pub mod placing;
+pub mod section;
 
 use digest::fold;
-use digest::one;
-use line::LinePixel;
-use line::inner::bg_index;
 use refusal::Verdict;
 ghost use mathlib.Core.Path.{_≡_};
 ghost use Rattle.refusal.specs.Verdicts.{verdictMeans};
 ghost use Rattle.digest.specs.Digest.{folded};
-ghost use Rattle.replay.specs.Replay.{Seeded, digestOf, sameOf};
+ghost use Rattle.replay.specs.Replay.{Seeded, digestOf};
 
 // A list's seed: four bytes of the standard input, or the list's own.
 pub fn seed(own: u32) -> u32
@@ -71,16 +70,4 @@ pub fn bytes(given: &[u8]) -> u32
         d = with_byte(d, given[i]);
     }
     d
-}
-
-// Are two pixels the same? The backdrop and a sprite differ in their priority.
-pub fn same(a: LinePixel, b: LinePixel) -> bool
-    ensures { λ r. ⌜ r ≡ sameOf a b ⌝ }
-{
-    let near = a.z;
-    let far = b.z;
-    let first = a.layer;
-    let second = b.layer;
-    let places = near.covers(far) & far.covers(near) & (bg_index(first) == bg_index(second));
-    places & (a.color == b.color) & (one(a.obj_math) == one(b.obj_math))
 }

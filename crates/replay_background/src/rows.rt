@@ -1,11 +1,8 @@
 // The rows of a scene.
 use crate::scene;
 use digest::fold;
-use laying::Candidates;
-use laying::CandidatesAnswer;
 use line::LinePixel;
 use line::Lines;
-use line::deposit;
 use line::inner::bg_index;
 use modes::inner::bg_params;
 use registers::PPURegisters;
@@ -13,6 +10,10 @@ use replay::drawing::after;
 use replay::drawing::ends;
 use replay::drawing::nth;
 use replay::hex;
+use replay::pixels::Pixels;
+use replay::pixels::bare;
+use replay::pixels::laid;
+use replay::pixels::lines;
 
 // Main's background and colour, then sub's colour.
 fn both(main: LinePixel, sub: LinePixel) -> u64 {
@@ -22,9 +23,9 @@ fn both(main: LinePixel, sub: LinePixel) -> u64 {
 }
 
 // A digest with all of two lines.
-fn folded(digest: u32, lines: Lines) -> u32 {
-    let main = lines.main;
-    let sub = lines.sub;
+fn folded(digest: u32, shown: Lines) -> u32 {
+    let main = shown.main;
+    let sub = shown.sub;
     let mut d = digest;
     for x in 0..256usize {
         d = fold(d, both(main[x], sub[x]));
@@ -53,47 +54,33 @@ fn shown_lines(
     y: usize,
 ) -> Lines {
     let r = lit(registers, bg, screens);
-    let lines = Lines::backdrops(cgram[0], r.coldata);
-    let answer = background::render_bg_scanline(lines, vram, cgram, r, bg_params(r, bg % 4), y);
-    let verdict = answer.verdict;
-    replay::settle(verdict);
-    let after = answer.lines;
-    after
+    let before = Lines::backdrops(cgram[0], r.coldata);
+    lines(background::render_bg_scanline(before, vram, cgram, r, bg_params(r, bg % 4), y))
 }
 
-// What a column shows after its candidates came.
-fn laid(main: u16, sub: u16, c: Candidates) -> u64 {
-    let over = c.main;
-    let under = c.sub;
-    both(
-        deposit(LinePixel::backdrop(main), over),
-        deposit(LinePixel::backdrop(sub), under),
-    )
-}
-
-// A digest with what column x shows by its candidates alone, which is what the lines have.
+// What column x of row y shows by its candidates alone.
 fn asked(
-    digest: u32,
     vram: &[u16],
     cgram: &[u16; 256],
     r: PPURegisters,
     bg: usize,
     x: usize,
     y: usize,
-    has: u64,
-) -> u32 {
-    let main = cgram[0];
-    match background::bg_candidates(vram, cgram, r, bg_params(r, bg % 4), x, y) {
-        CandidatesAnswer::Is(c) => {
-            let v = laid(main, r.coldata, c);
-            replay::agree(v == has);
-            fold(digest, v)
-        }
-        CandidatesAnswer::Refused(n) => {
-            say::refuse(n);
-            digest
-        }
-    }
+) -> Pixels {
+    let before = bare(cgram[0], r.coldata);
+    laid(
+        before,
+        background::bg_candidates(vram, cgram, r, bg_params(r, bg % 4), x, y),
+    )
+}
+
+// A digest with one column more, which shows what the lines have.
+fn checked(digest: u32, p: Pixels, has: u64) -> u32 {
+    let main = p.main;
+    let sub = p.sub;
+    let v = both(main, sub);
+    replay::agree(v == has);
+    fold(digest, v)
 }
 
 // A digest of row y at the first column, the last one and four others, on both screens, whose lines
@@ -101,50 +88,56 @@ fn asked(
 fn some(
     vram: &[u16],
     cgram: &[u16; 256],
-    registers: PPURegisters,
+    r: PPURegisters,
     bg: usize,
     y: usize,
-    lines: Lines,
+    shown: Lines,
     seed: u32,
 ) -> u32 {
-    let r = lit(registers, bg, 3);
-    let main = lines.main;
-    let sub = lines.sub;
+    let on_both = lit(r, bg, 3);
+    let main = shown.main;
+    let sub = shown.sub;
     let mut d: u32 = 0;
     for k in 0..6u32 {
         let x = (ends(k, 255, nth(k + 1, seed)) % 256) as usize;
-        d = asked(d, vram, cgram, r, bg, x, y, both(main[x], sub[x]));
+        d = checked(
+            d,
+            asked(vram, cgram, on_both, bg, x, y),
+            both(main[x], sub[x]),
+        );
     }
     d
 }
 
-// The first row, the last one or any, and its counter; a digest of its lines on main alone, on sub alone and on both, and one of
-// some columns. Eight numbers are drawn.
-fn row(vram: &[u16], cgram: &[u16; 256], registers: PPURegisters, bg: usize, k: u32, seed: u32) {
-    let y = ends(k, 223, nth(1, seed)) % 256;
-    let counter = (nth(2, seed) % 17) as u8;
-    hex(y as u64 * 256 + counter as u64, 4, b' ');
-    let at = y as usize;
-    let mut r = registers;
-    r.mosaic_vcounter = counter;
-    let on_main = folded(0, shown_lines(vram, cgram, r, bg, 1, at));
-    let on_sub = folded(on_main, shown_lines(vram, cgram, r, bg, 2, at));
-    let lines = shown_lines(vram, cgram, r, bg, 3, at);
-    hex(folded(on_sub, lines) as u64, 8, b' ');
-    let columns = some(vram, cgram, r, bg, at, lines, after(2, seed));
-    hex(columns as u64, 8, b'\n');
+// A digest of row y's lines on main alone, on sub alone and on both, and one of some columns.
+fn row(vram: &[u16], cgram: &[u16; 256], r: PPURegisters, bg: usize, y: usize, seed: u32) {
+    let on_main = folded(0, shown_lines(vram, cgram, r, bg, 1, y));
+    let on_sub = folded(on_main, shown_lines(vram, cgram, r, bg, 2, y));
+    let shown = shown_lines(vram, cgram, r, bg, 3, y);
+    hex(folded(on_sub, shown) as u64, 8, b' ');
+    hex(some(vram, cgram, r, bg, y, shown, seed) as u64, 8, b'\n');
 }
 
-// A scene: bgmode, the background, mosaic; four rows.
-fn one_scene(vram: &[u16], cgram: &[u16; 256], n: u16, seed: u32) {
-    let r = scene::registers(n, seed);
-    let bg = scene::background(r.bg_mode(), (n / 4) as usize);
-    io::print_hex(1, r.bgmode as u64, 2);
+// A scene's line: bgmode, the background, mosaic.
+fn head(bgmode: u8, bg: usize, mosaic: u8) {
+    io::print_hex(1, bgmode as u64, 2);
     io::print_hex(1, bg as u64, 1);
-    hex(r.mosaic as u64, 2, b'\n');
+    hex(mosaic as u64, 2, b'\n');
+}
+
+// A scene: its line, and four rows, the first, the last and any, each with its counter. Eight numbers are
+// drawn for each.
+fn one_scene(vram: &[u16], cgram: &[u16; 256], n: u16, seed: u32) {
+    let mut r = scene::registers(n, seed);
+    let bg = scene::background(r.bg_mode(), (n / 4) as usize);
+    head(r.bgmode, bg, r.mosaic);
     let mut x = after(18, seed);
     for k in 0..4u32 {
-        row(vram, cgram, r, bg, k, x);
+        let y = ends(k, 223, nth(1, x)) % 256;
+        let counter = nth(2, x) % 17;
+        hex(y as u64 * 256 + counter as u64, 4, b' ');
+        r.mosaic_vcounter = counter as u8;
+        row(vram, cgram, r, bg, y as usize, after(2, x));
         x = after(8, x);
     }
 }

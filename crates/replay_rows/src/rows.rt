@@ -7,6 +7,7 @@ use registers::PPURegisters;
 use replay::drawing::after;
 use replay::drawing::nth;
 use replay::hex;
+use replay::pixels;
 use replay::settle;
 
 // Six digits of a digest of a row.
@@ -20,39 +21,13 @@ fn drawn(vram: &[u16], cgram: &[u16], oam: &[u8], r: PPURegisters, y: usize) -> 
     digest(&row)
 }
 
-// The lines with one layer more.
-fn laid(
-    before: Lines,
-    vram: &[u16],
-    cgram: &[u16],
-    oam: &[u8],
-    r: PPURegisters,
-    y: usize,
-    layer: usize,
-) -> Lines {
-    let answer = layers::render_layer(before, vram, cgram, oam, r, y, layer);
-    let verdict = answer.verdict;
-    settle(verdict);
-    let lines = answer.lines;
-    lines
-}
-
-// The lines before any layer is laid.
-fn begun(cgram: &[u16], r: PPURegisters) -> Lines {
-    let answer = layers::backdrop_lines(cgram, r);
-    let verdict = answer.verdict;
-    settle(verdict);
-    let lines = answer.lines;
-    lines
-}
-
 // The lines of row y, laid in another order, and one layer twice.
 fn stepwise(vram: &[u16], cgram: &[u16], oam: &[u8], r: PPURegisters, y: usize) -> Lines {
     let order = [4usize, 2, 0, 3, 1, 2];
-    let mut lines = begun(cgram, r);
+    let mut lines = pixels::lines(layers::backdrop_lines(cgram, r));
     for k in 0..6usize {
-        let more = laid(lines, vram, cgram, oam, r, y, order[k]);
-        lines = more;
+        let more = layers::render_layer(lines, vram, cgram, oam, r, y, order[k]);
+        lines = pixels::lines(more);
     }
     lines
 }

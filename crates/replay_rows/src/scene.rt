@@ -1,12 +1,11 @@
 // The registers of a scene, of every value, and its sprites.
 use registers::PPURegisters;
 use replay::drawing::drawn;
-use replay::drawing::high;
-use replay::drawing::low;
-use replay::drawing::words;
+use replay::drawing::nth;
 use replay::placing::Place;
 use replay::placing::column;
 use replay::placing::with;
+use replay::section;
 
 // Modes 0, 1 and 3 and one of the modes that draw as mode 1, in turn.
 const MODES: [u8; 20] = [0, 1, 3, 2, 0, 1, 3, 4, 0, 1, 3, 5, 0, 1, 3, 6, 0, 1, 3, 7];
@@ -22,47 +21,65 @@ fn light(n: usize, byte: u8) -> u8 {
     byte % 128 / 16 * 16 + 4 + byte % 12
 }
 
-// Brightness, sprites, mode, mosaic, the counter, the field, the maps, the tiles and the scrolls.
-fn layers(n: usize, w: [u16; 256]) -> PPURegisters {
-    let mut r = PPURegisters::new();
-    r.inidisp = light(n, low(w[0]));
-    r.objsel = high(w[0]);
-    r.oamadd = w[1];
-    r.bgmode = low(w[2]) / 8 * 8 + MODES[(n / 8 + n % 8) % 20] % 8;
-    r.mosaic = high(w[2]);
-    r.mosaic_vcounter = low(w[3]) % 17;
-    r.field = w[3] / 256 % 2 == 1;
-    r.bgsc = [low(w[4]), high(w[4]), low(w[5]), high(w[5])];
-    r.bg12nba = low(w[6]);
-    r.bg34nba = high(w[6]);
-    r.bg1hofs = w[7];
-    r.bghofs = [w[8], w[9], w[10]];
-    r.bg1vofs = w[11];
-    r.bgvofs = [w[12], w[13], w[14]];
-    r
-}
+// Which bytes of the numbers drawn the registers have.
+const ORDER: [u8; 48] = [
+    1,
+    2,
+    3,
+    4,
+    5,
+    6,
+    9,
+    10,
+    11,
+    12,
+    13,
+    14,
+    15,
+    16,
+    17,
+    18,
+    19,
+    20,
+    21,
+    22,
+    23,
+    24,
+    25,
+    26,
+    27,
+    28,
+    29,
+    30,
+    31,
+    32,
+    33,
+    35,
+    36,
+    37,
+    38,
+    39,
+    34,
+    41,
+    42,
+    43,
+    44,
+    45,
+    46,
+    47,
+    48,
+    40,
+    7,
+    8,
+];
 
-// The registers of scene n, of 24 numbers: the windows, the screens and colour math too.
+// The registers of scene n, for which 24 numbers are drawn.
 pub(crate) fn registers(n: usize, seed: u32) -> PPURegisters {
-    let w = words(seed);
-    let mut r = layers(n, w);
-    r.w12sel = low(w[15]);
-    r.w34sel = high(w[15]);
-    r.wobjsel = low(w[16]);
-    r.wobjlog = high(w[16]);
-    r.wh0 = low(w[17]);
-    r.wh1 = high(w[17]);
-    r.wh2 = low(w[18]);
-    r.wh3 = high(w[18]);
-    r.wbglog = low(w[19]);
-    r.setini = high(w[19]);
-    r.tm = low(w[20]);
-    r.ts = high(w[20]);
-    r.tmw = low(w[21]);
-    r.tsw = high(w[21]);
-    r.cgwsel = low(w[22]);
-    r.cgadsub = high(w[22]);
-    r.coldata = w[23];
+    let mut r = section::registers(ORDER, seed);
+    r.inidisp = light(n, r.inidisp);
+    r.bgmode = r.bgmode / 8 % 32 * 8 + MODES[(n / 8 + n % 8) % 20] % 8;
+    r.mosaic_vcounter = r.mosaic_vcounter % 17;
+    r.field = nth(4, seed) / 256 % 2 == 1;
     r
 }
 

@@ -8,7 +8,7 @@ use line::Lines;
 use line::Priority;
 use line::deposit;
 use replay::agree;
-use replay::same;
+use replay::pixels::same;
 ghost use Prim.Native.Nat.{_<_};
 
 // A third of a sprite's priority, 0 for the backdrop's, 7 for any other.

@@ -3,18 +3,18 @@ use crate::pixels;
 use crate::scene;
 use digest::fold;
 use digest::one;
-use laying::CandidatesAnswer;
 use line::Candidate;
 use line::LinePixel;
 use line::Lines;
-use line::deposit;
 use registers::PPURegisters;
-use replay::agree;
 use replay::drawing::after;
 use replay::drawing::ends;
 use replay::drawing::nth;
 use replay::hex;
-use replay::same;
+use replay::pixels::bare;
+use replay::pixels::compare;
+use replay::pixels::laid;
+use replay::pixels::lines;
 
 // The sprite line of row y.
 fn line_of(
@@ -49,15 +49,11 @@ fn shown_lines(
     y: usize,
 ) -> Lines {
     let r = lit(registers, screens);
-    let lines = Lines::backdrops(cgram[0], r.coldata);
-    let answer = sprites::render_sprites(lines, vram, cgram, oam, r, y);
-    let verdict = answer.verdict;
-    replay::settle(verdict);
-    let after = answer.lines;
-    after
+    let before = Lines::backdrops(cgram[0], r.coldata);
+    lines(sprites::render_sprites(before, vram, cgram, oam, r, y))
 }
 
-// Column x of row y, which the lines hold so, asked by itself with the sprites on both screens.
+// Column x of row y, which the lines hold so, asked by itself.
 fn asked(
     vram: &[u16],
     cgram: &[u16; 256],
@@ -68,18 +64,12 @@ fn asked(
     main: LinePixel,
     sub: LinePixel,
 ) {
-    let over = LinePixel::backdrop(cgram[0]);
-    let under = LinePixel::backdrop(r.coldata);
-    match sprites::sprite_candidates(vram, cgram, oam, r, x, y) {
-        CandidatesAnswer::Is(c) => {
-            let on_main = c.main;
-            let on_sub = c.sub;
-            agree(same(main, deposit(over, on_main)) & same(sub, deposit(under, on_sub)));
-        }
-        CandidatesAnswer::Refused(n) => {
-            say::refuse(n);
-        }
-    }
+    let before = bare(cgram[0], r.coldata);
+    let after = laid(
+        before,
+        sprites::sprite_candidates(vram, cgram, oam, r, x, y),
+    );
+    compare(after, main, sub);
 }
 
 // A digest of row y at the first column, the last one and four others, on both screens, whose lines
@@ -88,41 +78,39 @@ fn some(
     vram: &[u16],
     cgram: &[u16; 256],
     oam: &[u8],
-    registers: PPURegisters,
+    r: PPURegisters,
     y: usize,
-    lines: Lines,
+    both: Lines,
     seed: u32,
 ) -> u32 {
-    let r = lit(registers, 3);
-    let main = lines.main;
-    let sub = lines.sub;
+    let on_both = lit(r, 3);
+    let main = both.main;
+    let sub = both.sub;
     let mut d: u32 = 0;
     for k in 0..6u32 {
         let x = (ends(k, 255, nth(k + 1, seed)) % 256) as usize;
-        asked(vram, cgram, oam, r, x, y, main[x], sub[x]);
+        asked(vram, cgram, oam, on_both, x, y, main[x], sub[x]);
         d = fold(d, pixels::both(main[x], sub[x]));
     }
     d
 }
 
-// A row below the first and oamadd; a digest of the sprite line, one of the lines on neither screen, on
-// main, on sub and on both, and one of some columns. Seven numbers are drawn.
-fn row(vram: &[u16], cgram: &[u16; 256], oam: &[u8], registers: PPURegisters, y: usize, seed: u32) {
-    let mut r = registers;
-    r.oamadd = nth(1, seed);
+// A row below the first; a digest of the sprite line, one of the lines on neither screen, on main, on sub
+// and on both, and one of some columns.
+fn row(vram: &[u16], cgram: &[u16; 256], oam: &[u8], r: PPURegisters, y: usize, seed: u32) {
     let line = line_of(vram, cgram, oam, r, y);
-    let none = pixels::folded(0, shown_lines(vram, cgram, oam, r, 0, y), line);
-    let on_main = pixels::folded(none, shown_lines(vram, cgram, oam, r, 1, y), line);
-    let on_sub = pixels::folded(on_main, shown_lines(vram, cgram, oam, r, 2, y), line);
-    let lines = shown_lines(vram, cgram, oam, r, 3, y);
-    let columns = some(vram, cgram, oam, r, y, lines, after(1, seed));
+    let mut d: u32 = 0;
+    for screens in 0..3u8 {
+        d = pixels::folded(d, shown_lines(vram, cgram, oam, r, screens, y), line);
+    }
+    let both = shown_lines(vram, cgram, oam, r, 3, y);
     hex(
         pixels::line_digest(line, LinePixel::backdrop(cgram[0])) as u64,
         8,
         b' ',
     );
-    hex(pixels::folded(on_sub, lines, line) as u64, 8, b' ');
-    hex(columns as u64, 8, b'\n');
+    hex(pixels::folded(d, both, line) as u64, 8, b' ');
+    hex(some(vram, cgram, oam, r, y, both, seed) as u64, 8, b'\n');
 }
 
 // A scene's line: objsel, setini, the field and the kind.
@@ -135,9 +123,9 @@ fn head(objsel: u8, setini: u8, field: bool, kind: u16) {
 // The rows that are drawn, counted from a scene's first.
 const BELOW: [u16; 4] = [0, 1, 4, 9];
 
-// A scene: its line, and four rows.
+// A scene: its line, and four rows with oamadd. Seven numbers are drawn for each.
 fn one_scene(vram: &[u16], cgram: &[u16; 256], n: u16, seed: u32) {
-    let r = scene::registers(n, seed);
+    let mut r = scene::registers(n, seed);
     let kind = n / 32;
     head(r.objsel, r.setini, r.field, kind);
     let first = scene::first_of(kind, nth(7, seed));
@@ -146,7 +134,8 @@ fn one_scene(vram: &[u16], cgram: &[u16; 256], n: u16, seed: u32) {
     for k in 0..4usize {
         let y = (first as u16 + BELOW[k] % 16) % 224;
         hex(y as u64 * 65536 + nth(1, x) as u64, 6, b' ');
-        row(vram, cgram, &oam, r, y as usize, x);
+        r.oamadd = nth(1, x);
+        row(vram, cgram, &oam, r, y as usize, after(1, x));
         x = after(7, x);
     }
 }

@@ -2,29 +2,71 @@
 use registers::PPURegisters;
 use replay::drawing::drawn;
 use replay::drawing::ends;
-use replay::drawing::high;
 use replay::drawing::low;
-use replay::drawing::words;
 use replay::placing::Place;
 use replay::placing::column;
 use replay::placing::with;
+use replay::section;
+
+// Which bytes of the numbers drawn the registers have: objsel and setini, the windows of sprites, tmw, tsw
+// and coldata.
+const ORDER: [u8; 48] = [
+    0,
+    1,
+    0,
+    0,
+    0,
+    0,
+    0,
+    0,
+    0,
+    0,
+    0,
+    0,
+    0,
+    0,
+    0,
+    0,
+    0,
+    0,
+    0,
+    0,
+    0,
+    0,
+    0,
+    0,
+    0,
+    0,
+    0,
+    0,
+    0,
+    0,
+    3,
+    5,
+    6,
+    7,
+    8,
+    0,
+    4,
+    0,
+    0,
+    9,
+    10,
+    0,
+    0,
+    11,
+    12,
+    2,
+    0,
+    0,
+];
 
 // Every size, interlace off and on, both fields; the rest is drawn, of six numbers.
 pub(crate) fn registers(n: u16, seed: u32) -> PPURegisters {
-    let w = words(seed);
-    let mut r = PPURegisters::new();
-    r.objsel = low(n % 8 * 32 + w[0] % 32);
-    r.setini = low(w[0] / 1024 % 64 * 4 + n / 8 % 2 * 2 + w[0] / 256 % 2);
+    let mut r = section::registers(ORDER, seed);
+    r.objsel = low(n % 8) % 8 * 32 + r.objsel % 32;
+    r.setini = r.setini / 4 % 64 * 4 + low(n / 8 % 2) % 2 * 2 + r.setini % 2;
     r.field = n / 16 % 2 == 1;
-    r.wobjsel = low(w[1]);
-    r.wobjlog = high(w[1]);
-    r.wh0 = low(w[2]);
-    r.wh1 = high(w[2]);
-    r.wh2 = low(w[3]);
-    r.wh3 = high(w[3]);
-    r.tmw = low(w[4]);
-    r.tsw = high(w[4]);
-    r.coldata = w[5];
     r
 }
 

@@ -4,10 +4,10 @@ use Rattle.replay_background.proofs.rows.some.Statement.{statement}
 use Rattle.replay_background.proofs.rows.some.Tie as tie
 
 abbrev Inv-loop : tie.InvT-loop
-Inv-loop vram cgram bg y seed r main sub d₀ k₀ d k = Unit {0}
+Inv-loop vram cgram bg y seed on-both main sub d₀ k₀ d k = Unit {0}
 
 abbrev μ-loop : tie.MeasureT-loop
-μ-loop vram cgram bg y seed r main sub d₀ k₀ d k = 6 - k
+μ-loop vram cgram bg y seed on-both main sub d₀ k₀ d k = 6 - k
 
 pub some-spec : {M : Type 1} → statement M
 some-spec =
@@ -21,6 +21,7 @@ some-spec =
     (λ c κs. search needs)
     (λ c κs. search needs)
     (λ c. search needs)
+    (λ c κs. search needs)
     (λ c. search needs)
     (λ c. search needs)
     (λ c. search needs)

@@ -4,10 +4,10 @@ use Rattle.replay_rows.proofs.columns.column.Statement.{statement}
 use Rattle.replay_rows.proofs.columns.column.Tie as tie
 
 abbrev Inv-loop : tie.InvT-loop
-Inv-loop vram cgram oam r x y over under held₀ layer₀ held layer = Unit {0}
+Inv-loop vram cgram oam r x y main sub held₀ layer₀ held layer = Unit {0}
 
 abbrev μ-loop : tie.MeasureT-loop
-μ-loop vram cgram oam r x y over under held₀ layer₀ held layer = 5 - layer
+μ-loop vram cgram oam r x y main sub held₀ layer₀ held layer = 5 - layer
 
 pub column-spec : {M : Type 1} → statement M
 column-spec =
@@ -17,13 +17,11 @@ column-spec =
     μ-loop
     (λ c. search needs)
     (λ c κs. search needs)
-    (λ c κs. search needs)
-    (λ c. search needs)
-    (λ c κs. search needs)
-    (λ c. search needs)
-    (λ c. search needs)
     (λ c. search needs)
     (λ c κs. search needs)
     (λ c κs. search needs)
+    (λ c. search needs)
+    (λ c. search needs)
+    (λ c. search needs)
     (λ c κs. search needs)
     (λ c. search needs))

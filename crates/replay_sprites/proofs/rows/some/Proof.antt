@@ -4,10 +4,10 @@ use Rattle.replay_sprites.proofs.rows.some.Statement.{statement}
 use Rattle.replay_sprites.proofs.rows.some.Tie as tie
 
 abbrev Inv-loop : tie.InvT-loop
-Inv-loop vram cgram oam y seed r main sub d₀ k₀ d k = Unit {0}
+Inv-loop vram cgram oam y seed on-both main sub d₀ k₀ d k = Unit {0}
 
 abbrev μ-loop : tie.MeasureT-loop
-μ-loop vram cgram oam y seed r main sub d₀ k₀ d k = 6 - k
+μ-loop vram cgram oam y seed on-both main sub d₀ k₀ d k = 6 - k
 
 pub some-spec : {M : Type 1} → statement M
 some-spec =

@@ -1,6 +1,6 @@
 use borrow.Author.Needs.{needs}
-use Rattle.replay.proofs.same.Statement.{statement}
-use Rattle.replay.proofs.same.Tie as tie
+use Rattle.replay.proofs.pixels.same.Statement.{statement}
+use Rattle.replay.proofs.pixels.same.Tie as tie
 
 returns : tie.Need-returns
 returns c = cc
