@@ -1,3 +1,6 @@
+use Prim.Native.Nat.{_/_}
+use mathlib.Core.Path.{_∙_}
+use Rattle.generator.specs.Generator.{nextOf}
 use Rattle.replay.specs.Drawing.{afterOf}
 use borrow.Author.Needs.{needs}
 use Rattle.replay.proofs.drawing.drawn.Statement.{statement}
@@ -5,7 +8,21 @@ use Rattle.replay.proofs.drawing.drawn.Tie as tie
 
 returns : tie.Need-returns
 unfolding afterOf
-returns c = cc
+returns c =
+    let w = c .before .before .before in
+    let n = w .before .before .before in
+    let a = n .before .next .ensures in
+    let b = n .next2 .ensures ∙ (λ i. nextOf (a i)) in
+    let d = w .before .before .next3 .ensures ∙ (λ i. nextOf (b i)) in
+    let x = w .before .next4 .ensures ∙ (λ i. nextOf (d i)) in
+    λ i.
+    record {
+      a = (w .word .ensures ∙ (λ j. a j / 65536)) i;
+      b = (c .before .before .word2 .ensures ∙ (λ j. b j / 65536)) i;
+      c = (c .before .word3 .ensures ∙ (λ j. d j / 65536)) i;
+      d = (c .word4 .ensures ∙ (λ j. x j / 65536)) i;
+      x = x i;
+    }
 
 pub drawn-spec : {M : Type 1} → statement M
 drawn-spec =
