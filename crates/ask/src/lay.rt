@@ -7,8 +7,8 @@ use line::Candidate;
 use line::LinePixel;
 use line::Lines;
 use line::Priority;
-use line::inner::bg_index;
 use line::inner::pick;
+use replay::pixels::same;
 
 // The pixel that a statement describes.
 fn pixel_of(c: [u64; 112]) -> LinePixel {
@@ -52,15 +52,6 @@ fn with_sub(lines: Lines, n: u64, c: [u64; 112]) -> Lines {
     let sub = put(before, n, c);
     let main = lines.main;
     Lines { main, sub }
-}
-
-fn same(a: LinePixel, b: LinePixel) -> bool {
-    let near = a.z;
-    let far = b.z;
-    let first = a.layer;
-    let second = b.layer;
-    let places = near.covers(far) & far.covers(near) & (bg_index(first) == bg_index(second));
-    places & (a.color == b.color) & (digest::one(a.obj_math) == digest::one(b.obj_math))
 }
 
 // The columns in which one of the lines is no more what it was.
