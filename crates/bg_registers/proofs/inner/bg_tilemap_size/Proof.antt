@@ -3,7 +3,7 @@ use Rattle.bg_registers.proofs.inner.bg_tilemap_size.Statement.{stateme
 use Rattle.bg_registers.proofs.inner.bg_tilemap_size.Tie as tie
 
 returns : tie.Need-returns
-returns c = cc
+returns c = λ i. record { w64 = c .before .bit .ensures i; h64 = c .bit2 .ensures i }
 
 pub bg-tilemap-size-spec : {M : Type 1} → statement M
 bg-tilemap-size-spec =
