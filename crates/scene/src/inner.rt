@@ -5,12 +5,15 @@ use oam::OAM_SIZE;
 use refusal::Refusal;
 use refusal::Verdict;
 use registers::constants::LARGEST_COUNTER;
+use scene_bytes::inner::copy;
 use scene_bytes::inner::word_at;
+use scene_bytes::inner::words;
 ghost use mathlib.Core.Path.{_≡_};
-ghost use Prim.Native.Nat.{_+_, _≤_};
+ghost use Prim.Native.Nat.{_+_, _*_, _≤_};
 ghost use lib.ListN.{length};
 ghost use Rattle.refusal.specs.Verdicts.{verdictMeans, Passed};
-ghost use Rattle.scene.specs.File.{countAt, sectionTests, endTests, valueTests, sceneTests};
+ghost use Rattle.scene_bytes.specs.Bytes.{wordsOf};
+ghost use Rattle.scene.specs.File.{countAt, bodyAt, sectionTests, endTests, valueTests, sceneTests};
 ghost use Rattle.scene.specs.Pieces.{countTests, bodyTests, fromSprites, fromColours, fromVram, fromEnd};
 
 // The bytes of the sections' bodies.
@@ -140,4 +143,20 @@ pub fn scene_tested(scene: &[u8]) -> Verdict
         Verdict::Fine => from_sprites(scene),
         Verdict::Refused(n) => Verdict::Refused(n),
     }
+}
+
+// Fills a memory with the words of the section whose body begins at byte k.
+pub fn fill_words(out: &mut [u16], scene: &[u8], k: usize)
+    requires { ⌜ (k + length (now out) * 2 ≤ 66656) × (66656 ≤ length (now scene)) ⌝ }
+    ensures { λ u. ⌜ now (out .exit) ≡ wordsOf (length (now (out .entry))) (bodyAt (now (scene .entry)) k (length (now (out .entry)) * 2)) ⌝ }
+{
+    words(out, &scene[k..k + out.len() * 2]);
+}
+
+// Fills sprite memory with the bytes of its section.
+pub fn fill_bytes(out: &mut [u8], scene: &[u8], k: usize)
+    requires { ⌜ (k + length (now out) ≤ 66656) × (66656 ≤ length (now scene)) ⌝ }
+    ensures { λ u. ⌜ now (out .exit) ≡ bodyAt (now (scene .entry)) k (length (now (out .entry))) ⌝ }
+{
+    copy(out, &scene[k..k + out.len()]);
 }

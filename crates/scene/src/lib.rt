@@ -2,15 +2,15 @@
 // slice and writes its targets only when all of it is accepted.
 pub mod inner;
 
+use inner::fill_bytes;
+use inner::fill_words;
 use inner::scene_tested;
 use oam::OAM_SIZE;
 use refusal::Refusal;
 use refusal::Verdict;
 use registers::PPURegisters;
 use registers::constants::COLOUR_WORDS;
-use scene_bytes::inner::copy;
 use scene_bytes::inner::registers;
-use scene_bytes::inner::words;
 use tiles::inner::VRAM_WORDS;
 ghost use mathlib.Core.Path.{_≡_};
 ghost use Prim.Native.Nat.{_≤_};
@@ -51,9 +51,9 @@ pub fn read_scene(vram: &mut [u16], cgram: &mut [u16], oam: &mut [u8], scene: &[
 {
     match tested(vram.len(), cgram.len(), oam.len(), scene) {
         Verdict::Fine => {
-            words(vram, &scene[1120..66656]);
-            words(cgram, &scene[604..1116]);
-            copy(oam, &scene[56..600]);
+            fill_words(vram, scene, 1120);
+            fill_words(cgram, scene, 604);
+            fill_bytes(oam, scene, 56);
             let registers = registers(&scene[4..52]);
             SceneAnswer {
                 verdict: Verdict::Fine,
