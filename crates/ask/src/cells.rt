@@ -296,18 +296,11 @@ fn right(cells: [u64; 112]) -> [u64; 112] {
     c
 }
 
-// Every register and parameter cleared, the right lengths, the first line.
-pub(crate) fn fresh() -> [u64; 112] {
+// Every register and parameter cleared, and the right lengths, at a line.
+pub(crate) fn fresh(line: u64) -> [u64; 112] {
     let mut c = [0u64; 112];
-    c[LINE] = 1;
+    c[LINE] = line;
     right(c)
-}
-
-// The same at a later line.
-pub(crate) fn renewed(cells: [u64; 112]) -> [u64; 112] {
-    let mut c = fresh();
-    c[LINE] = cells[LINE];
-    c
 }
 
 // The cells with no argument.

@@ -71,21 +71,21 @@ fn changed(before: Lines, after: Lines) -> u64 {
 // Writes of the lines how many columns changed, or one column.
 fn told(before: Lines, after: Lines, c: [u64; 112]) {
     if c[cells::COUNT] == 1 {
-        say::number(b"", changed(before, after));
-        say::words(b" columns changed");
+        let numbers = [changed(before, after)];
+        say::told(b"# columns changed", &numbers);
         return;
     }
     let main = after.main;
     let sub = after.sub;
     let x = (c[cells::COLUMN] % 256) as usize;
-    say::both(main[x], sub[x]);
+    say::pixel(b"main # # # math#", main[x]);
+    say::pixel(b", sub # # # math#", sub[x]);
 }
 
 // Writes what a call left of the lines, and hands on what is kept.
 fn left(before: Lines, answer: LinesAnswer, c: [u64; 112]) -> Lines {
     let verdict = answer.verdict;
     let after = answer.lines;
-    say::begin();
     say::verdict(verdict);
     told(before, after, c);
     if c[cells::KEEP] == 1 {
@@ -98,8 +98,7 @@ fn left(before: Lines, answer: LinesAnswer, c: [u64; 112]) -> Lines {
 fn composed(row: &mut [u8], lines: Lines, c: [u64; 112]) {
     let n = cells::lent(c[59], row);
     let verdict = composite::composite_line(&mut row[..n], lines, cells::registers(c));
-    let m = cells::lent(c[59], row);
-    say::drawn(verdict, &row[..m], c, 0);
+    say::drawn(verdict, row, c[59], c, 0);
 }
 
 fn composite(lines: Lines, c: [u64; 112]) -> Lines {
@@ -114,8 +113,10 @@ fn deposited(lines: Lines, c: [u64; 112]) -> Lines {
     let x = (c[cells::COLUMN] % 256) as usize;
     let pixel = pixel_of(c);
     let opaque = c[cells::CLEAR] == 0;
-    say::begin();
-    say::pixel(b"", line::deposit(main[x], Candidate { opaque, pixel }));
+    say::pixel(
+        b" -> # # # math#",
+        line::deposit(main[x], Candidate { opaque, pixel }),
+    );
     lines
 }
 
@@ -131,9 +132,9 @@ fn drawn(
     let r = cells::registers(c);
     let y = c[cells::ROW] as usize;
     match verb {
-        51 => layers::backdrop_lines(cgram, r),
-        52 => background::render_bg_scanline(lines, vram, cgram, r, cells::params(c), y),
-        53 => sprites::render_sprites(lines, vram, cgram, oam, r, y),
+        19 => layers::backdrop_lines(cgram, r),
+        20 => background::render_bg_scanline(lines, vram, cgram, r, cells::params(c), y),
+        21 => sprites::render_sprites(lines, vram, cgram, oam, r, y),
         _ => layers::render_layer(lines, vram, cgram, oam, r, y, n as usize),
     }
 }
@@ -165,12 +166,12 @@ pub(crate) fn ask(
     c: [u64; 112],
 ) -> Lines {
     match verb {
-        48 => Lines::backdrops(cells::word(c[cells::MAIN]), cells::word(c[cells::SUB])),
-        49 => with_main(lines, n, c),
-        50 => with_sub(lines, n, c),
-        51..=54 => lent(lines, vram, cgram, oam, verb, n, c),
-        55 => composite(lines, c),
-        56 => deposited(lines, c),
+        16 => Lines::backdrops(cells::word(c[cells::MAIN]), cells::word(c[cells::SUB])),
+        17 => with_main(lines, n, c),
+        18 => with_sub(lines, n, c),
+        19..=22 => lent(lines, vram, cgram, oam, verb, n, c),
+        23 => composite(lines, c),
+        24 => deposited(lines, c),
         _ => lines,
     }
 }

@@ -13,15 +13,6 @@ use line::Lines;
 use statement::Statement;
 ghost use Prim.Native.Nat.{_<_};
 
-// Writes a part of the script.
-fn echo(s: &[u8], from: usize, to: usize) {
-    if from <= to {
-        if to <= s.len() {
-            io::write_all(1, &s[from..to]);
-        }
-    }
-}
-
 // Where what follows a statement ends: the mark that divides two of them, or a comment and its line.
 fn tail(s: &[u8], stop: usize) -> usize {
     if stop >= s.len() {
@@ -59,7 +50,8 @@ fn beyond(at: usize, next: usize) -> usize
 // A statement that nothing understands is answered with its line.
 fn judge(q: Statement) {
     if q.bad {
-        say::number(b" -> bad line ", q.cells[cells::LINE]);
+        let numbers = [q.cells[cells::LINE]];
+        say::told(b" -> bad line #", &numbers);
     }
 }
 
@@ -103,10 +95,10 @@ fn one_turn(
 ) -> Turn {
     let q = statement::read(s, at, before);
     let end = tail(s, q.stop);
-    echo(s, at, q.stop);
+    say::part(s, at, q.stop);
     let lines = answer(held, vram, cgram, oam, q);
     let changed = change(vram, cgram, oam, q);
-    echo(s, q.stop, end);
+    say::part(s, q.stop, end);
     let kept = cells::after(changed, line_before(s, end));
     Turn {
         kept,
@@ -116,7 +108,7 @@ fn one_turn(
 }
 
 fn run(s: &[u8], vram: &mut [u16], cgram: &mut [u16], oam: &mut [u8]) {
-    let mut kept = cells::fresh();
+    let mut kept = cells::fresh(1);
     let mut lines = Lines::backdrops(0, 0);
     let mut at: usize = 0;
     while at < s.len() {

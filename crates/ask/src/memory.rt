@@ -134,10 +134,10 @@ pub(crate) fn write(vram: &mut [u16], cgram: &mut [u16], oam: &mut [u8], q: Stat
     let list = q.list;
     let c = q.cells;
     match verb {
-        16 => words(vram, q),
-        17 => words(cgram, q),
-        18 => bytes(oam, q),
-        19 => sprites(oam, list[0], c),
+        5 => words(vram, q),
+        6 => words(cgram, q),
+        7 => bytes(oam, q),
+        8 => sprites(oam, list[0], c),
         _ => {}
     }
 }

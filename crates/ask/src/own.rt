@@ -5,126 +5,135 @@ use bg_map::BgParams;
 use bg_registers::ScrollAnswer;
 use bg_registers::SizeAnswer;
 use colour::RgbAnswer;
+use digest::one;
 use line::Layer;
 use line::LayerAnswer;
 use modes::BgMode;
 use modes::BgModeAnswer;
 use modes::ParamsAnswer;
 use mosaic::OffsetAnswer;
-use refusal::Refusal;
 use registers::PPURegisters;
 use tiles::BitDepth;
 
-// Words and a refusal.
-fn refused(text: &[u8], r: Refusal) {
-    say::words(text);
-    say::refused(r);
-}
-
 fn layer_bits(r: PPURegisters, n: usize) {
-    say::truth(b"tm ", r.to_main(n));
-    say::truth(b", ts ", r.to_sub(n));
-    say::truth(b", tmw ", r.win_main(n));
-    say::truth(b", tsw ", r.win_sub(n));
+    let bits = [
+        say::truth(r.to_main(n)),
+        say::truth(r.to_sub(n)),
+        say::truth(r.win_main(n)),
+        say::truth(r.win_sub(n)),
+    ];
+    say::told(b" -> tm #, ts #, tmw #, tsw #", &bits);
 }
 
 fn windows_at(r: PPURegisters, x: usize) {
-    say::truth(b"first ", windows::in_window1(r, x));
-    say::truth(b", second ", windows::in_window2(r, x));
-    say::truth(b", sprites ", windows::obj_window_masked(r, x));
-    say::truth(b", colour ", windows::in_color_window(r, x));
+    let bits = [
+        say::truth(windows::in_window1(r, x)),
+        say::truth(windows::in_window2(r, x)),
+        say::truth(windows::obj_window_masked(r, x)),
+        say::truth(windows::in_color_window(r, x)),
+    ];
+    say::told(b" -> first #, second #, sprites #, colour #", &bits);
 }
 
 fn side(is64: bool) -> u64 {
     if is64 { 64 } else { 32 }
 }
 
-fn size(answer: SizeAnswer) {
+// Words and the two numbers of an answer.
+fn size(answer: SizeAnswer) -> [u64; 2] {
     match answer {
-        SizeAnswer::Is(s) => {
-            say::number(b", size ", side(s.w64));
-            say::number(b" by ", side(s.h64));
-        }
-        SizeAnswer::Refused(r) => refused(b", size ", r),
+        SizeAnswer::Is(s) => [side(s.w64), side(s.h64)],
+        SizeAnswer::Refused(r) => [say::refused(r), say::LEFT_OUT],
     }
 }
 
-fn scroll(answer: ScrollAnswer) {
+fn scroll(answer: ScrollAnswer) -> [u64; 2] {
     match answer {
-        ScrollAnswer::Is(s) => {
-            say::small(b", scroll ", s.x);
-            say::small(b" ", s.y);
-        }
-        ScrollAnswer::Refused(r) => refused(b", scroll ", r),
+        ScrollAnswer::Is(s) => [s.x as u64, s.y as u64],
+        ScrollAnswer::Refused(r) => [say::refused(r), say::LEFT_OUT],
     }
 }
 
-fn offset(text: &[u8], answer: OffsetAnswer) {
+// A number from -256 to 255, or a refusal.
+fn offset(answer: OffsetAnswer) -> u64 {
     match answer {
-        OffsetAnswer::Is(z) => signed(text, z),
-        OffsetAnswer::Refused(r) => refused(text, r),
+        OffsetAnswer::Is(z) => signed(oam::nine_bits(z) as u64 % 512),
+        OffsetAnswer::Refused(r) => say::refused(r),
     }
-}
-
-// Words and a number from -256 to 255.
-fn signed(text: &[u8], z: i16) {
-    let n = oam::nine_bits(z) % 512;
-    say::words(text);
-    if n < 256 {
-        say::small(b"", n);
-        return;
-    }
-    say::small(b"-", 512 - n);
 }
 
 fn places(r: PPURegisters, bg: usize) {
-    say::word(b"map ", bg_registers::bg_tilemap_addr(r, bg));
-    say::word(b", tiles ", bg_registers::bg_tiledata_addr(r, bg));
-    size(bg_registers::bg_tilemap_size(r, bg));
-    scroll(bg_registers::bg_scroll(r, bg));
-    say::truth(b", side16 ", bg_registers::bg_tile16(r, bg));
+    let size = size(bg_registers::bg_tilemap_size(r, bg));
+    let scroll = scroll(bg_registers::bg_scroll(r, bg));
+    let numbers = [
+        say::word(bg_registers::bg_tilemap_addr(r, bg)),
+        say::word(bg_registers::bg_tiledata_addr(r, bg)),
+        size[0],
+        size[1],
+        scroll[0],
+        scroll[1],
+    ];
+    say::told(b" -> map #, tiles #, size # by #, scroll # #", &numbers);
 }
 
 fn background(r: PPURegisters, bg: usize) {
     places(r, bg);
-    say::truth(b", mosaic ", mosaic::bg_mosaic(r, bg));
-    say::word(b", block ", mosaic::bg_mosaic_block(r, bg));
+    let numbers = [
+        say::truth(bg_registers::bg_tile16(r, bg)),
+        say::truth(mosaic::bg_mosaic(r, bg)),
+        say::word(mosaic::bg_mosaic_block(r, bg)),
+    ];
+    say::told(b", side16 #, mosaic #, block #", &numbers);
+}
+
+// A number of nine bits, two's complement.
+fn signed(n: u64) -> u64 {
+    if n < 256 {
+        return n;
+    }
+    say::MINUS + 512 - n % 512
 }
 
 fn whole_mosaic(r: PPURegisters) {
-    say::byte(b"size ", mosaic::mosaic_size(r));
-    offset(b", offset ", mosaic::mosaic_voffset(r));
+    let numbers = [
+        mosaic::mosaic_size(r) as u64,
+        offset(mosaic::mosaic_voffset(r)),
+    ];
+    say::told(b" -> size #, offset #", &numbers);
 }
 
-fn rgb(answer: RgbAnswer) {
-    match answer {
+fn rgb(color: u16, level: u16) {
+    match colour::apply_brightness(color, level) {
         RgbAnswer::Is(c) => {
-            say::byte(b"", c.red);
-            say::byte(b" ", c.green);
-            say::byte(b" ", c.blue);
+            let numbers = [c.red as u64, c.green as u64, c.blue as u64];
+            say::told(b" -> # # #", &numbers);
         }
-        RgbAnswer::Refused(r) => say::refused(r),
+        RgbAnswer::Refused(r) => say::single(say::refused(r)),
     }
 }
 
-fn math(c: [u64; 112]) {
+fn math(c: [u64; 112]) -> u16 {
     let main = cells::word(c[cells::MAIN]);
     let sub = cells::word(c[cells::SUB]);
-    let subtract = c[cells::SUBTRACT] == 1;
-    let half = c[cells::HALF] == 1;
-    say::small(b"", colour::color_math(main, sub, subtract, half));
+    colour::color_math(main, sub, c[cells::SUBTRACT] == 1, c[cells::HALF] == 1)
 }
 
 fn entry(word: u16) {
     let e = bg_map::map_entry(word);
-    say::small(b"tile ", e.tile);
-    say::byte(b", palette ", e.palette);
-    say::bit(b", high ", e.high);
-    say::bit(b", flip x ", e.flip_x);
-    say::bit(b", flip y ", e.flip_y);
+    let numbers = [
+        e.tile as u64,
+        e.palette as u64,
+        one(e.high),
+        one(e.flip_x),
+        one(e.flip_y),
+    ];
+    say::told(
+        b" -> tile #, palette #, high #, flip x #, flip y #",
+        &numbers,
+    );
 }
 
-fn layer_of(bg: usize) {
+fn layer_of(bg: usize) -> u64 {
     match Layer::from_bg(bg) {
         LayerAnswer::Is(l) => say::layer(l),
         LayerAnswer::Refused(r) => say::refused(r),
@@ -133,8 +142,8 @@ fn layer_of(bg: usize) {
 
 fn sprite_size(objsel: u8, large: bool) {
     let size = oam::sprite_size(objsel, large);
-    say::byte(b"", size.width);
-    say::byte(b" by ", size.height);
+    let numbers = [size.width as u64, size.height as u64];
+    say::told(b" -> # by #", &numbers);
 }
 
 fn bits(d: BitDepth) -> u64 {
@@ -147,32 +156,19 @@ fn bits(d: BitDepth) -> u64 {
 
 fn of_mode(m: BgMode) {
     if !m.present {
-        say::words(b"none");
+        say::single(say::NONE);
         return;
     }
     let d = m.bpp;
-    say::number(b"bpp ", bits(d));
-    say::byte(b", low ", m.low);
-    say::byte(b", high ", m.high);
-    say::bit(b", own ", m.own_palettes);
+    let numbers = [bits(d), m.low as u64, m.high as u64, one(m.own_palettes)];
+    say::told(b" -> bpp #, low #, high #, own #", &numbers);
 }
 
 fn bg_mode(r: PPURegisters, bg: usize) {
     match modes::bg_mode(r, bg) {
         BgModeAnswer::Is(m) => of_mode(m),
-        BgModeAnswer::Refused(n) => say::refused(n),
+        BgModeAnswer::Refused(n) => say::single(say::refused(n)),
     }
-}
-
-fn map(p: BgParams) {
-    say::small(b"map ", p.tilemap_base);
-    say::small(b", tiles ", p.tiledata_base);
-    say::small(b", scroll ", p.scroll_x);
-    say::small(b" ", p.scroll_y);
-    say::bit(b", w64 ", p.w64);
-    say::bit(b", h64 ", p.h64);
-    say::bit(b", side16 ", p.tile16);
-    say::bit(b", mosaic ", p.mosaic);
 }
 
 fn params(p: BgParams) {
@@ -180,21 +176,33 @@ fn params(p: BgParams) {
     let l = p.layer;
     let low = p.z_low;
     let high = p.z_high;
-    map(p);
-    say::number(b", bpp ", bits(d));
-    say::priority(b", low ", low);
-    say::priority(b", high ", high);
-    say::bit(b", own ", p.own_palettes);
-    say::words(b", ");
-    say::layer(l);
-    say::words(b", ");
-    lit(p);
+    let numbers = [
+        p.tilemap_base as u64,
+        p.tiledata_base as u64,
+        p.scroll_x as u64,
+        p.scroll_y as u64,
+        one(p.w64),
+        one(p.h64),
+        one(p.tile16),
+        one(p.mosaic),
+        bits(d),
+        say::priority(low),
+        say::priority(high),
+        one(p.own_palettes),
+        say::layer(l),
+        one(p.to_main),
+        one(p.to_sub),
+    ];
+    say::told(
+        b" -> map #, tiles #, scroll # #, w64 #, h64 #, side16 #, mosaic #, bpp #, low #, high #, own #, #, main #, sub #",
+        &numbers,
+    );
 }
 
 // The screens that light a background.
 fn lit(p: BgParams) {
-    say::bit(b"main ", p.to_main);
-    say::bit(b", sub ", p.to_sub);
+    let numbers = [one(p.to_main), one(p.to_sub)];
+    say::told(b" -> main #, sub #", &numbers);
 }
 
 fn bg_params(r: PPURegisters, bg: usize, whole: bool) {
@@ -204,60 +212,53 @@ fn bg_params(r: PPURegisters, bg: usize, whole: bool) {
         } else {
             lit(p);
         },
-        ParamsAnswer::Refused(n) => say::refused(n),
+        ParamsAnswer::Refused(n) => say::single(say::refused(n)),
     }
 }
 
 // By registers.
 fn of_registers(r: PPURegisters, verb: usize, n: usize, x: usize, large: bool) {
     match verb {
-        64 => layer_bits(r, n),
-        65 => windows_at(r, x),
-        66 => say::truth(b"", windows::bg_window_masked(r, n, x)),
-        67 => background(r, n),
-        68 => whole_mosaic(r),
-        75 => sprite_size(r.objsel, large),
-        76 => bg_mode(r, n),
-        77 => bg_params(r, n, true),
-        78 => bg_params(r, n, false),
-        _ => offset(b"", mosaic::bg_mosaic_voffset(r, n)),
+        25 => layer_bits(r, n),
+        26 => windows_at(r, x),
+        27 => say::single(say::truth(windows::bg_window_masked(r, n, x))),
+        28 => background(r, n),
+        29 => whole_mosaic(r),
+        30 => sprite_size(r.objsel, large),
+        31 => bg_mode(r, n),
+        32 => bg_params(r, n, true),
+        33 => bg_params(r, n, false),
+        _ => say::single(offset(mosaic::bg_mosaic_voffset(r, n))),
     }
 }
 
 // By numbers.
 fn of_numbers(c: [u64; 112], verb: usize, n: u64) {
     match verb {
-        69 => rgb(colour::apply_brightness(
-            cells::word(c[cells::COLOR]),
-            cells::word(c[cells::LEVEL]),
-        )),
-        70 => say::small(
-            b"",
-            colour::direct_color(cells::byte(c[cells::INDEX]), cells::byte(c[cells::PALETTE])),
+        35 => rgb(cells::word(c[cells::COLOR]), cells::word(c[cells::LEVEL])),
+        36 => say::single(
+            colour::direct_color(
+                cells::byte(c[cells::INDEX]),
+                cells::byte(c[cells::PALETTE]),
+            ) as u64,
         ),
-        71 => math(c),
-        72 => say::number(b"", cells::depth(c[cells::BPP]).tile_words() as u64),
-        73 => entry(cells::word(n)),
-        _ => layer_of(n as usize),
+        37 => say::single(math(c) as u64),
+        38 => say::single(cells::depth(c[cells::BPP]).tile_words() as u64),
+        39 => entry(cells::word(n)),
+        _ => say::single(layer_of(n as usize)),
     }
 }
 
 pub(crate) fn ask(verb: usize, n: u64, c: [u64; 112]) {
     match verb {
-        64..=68 | 75..=79 => {
-            say::begin();
-            of_registers(
-                cells::registers(c),
-                verb,
-                n as usize,
-                c[cells::COLUMN] as usize,
-                c[cells::LARGE] == 1,
-            );
-        }
-        69..=74 => {
-            say::begin();
-            of_numbers(c, verb, n);
-        }
+        25..=34 => of_registers(
+            cells::registers(c),
+            verb,
+            n as usize,
+            c[cells::COLUMN] as usize,
+            c[cells::LARGE] == 1,
+        ),
+        35..=40 => of_numbers(c, verb, n),
         _ => {}
     }
 }

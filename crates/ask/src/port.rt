@@ -1,9 +1,11 @@
 // The data port of sprite memory, and the flags kept from row to row.
 use crate::cells;
 use crate::say;
+use digest::one;
 use oam_flags::OamFlags;
 use oam_port::ByteAnswer;
 use oam_port::OamPort;
+use refusal::Verdict;
 
 fn port_of(c: [u64; 112]) -> OamPort {
     OamPort {
@@ -14,8 +16,8 @@ fn port_of(c: [u64; 112]) -> OamPort {
 
 // Writes the port, and keeps it.
 fn left(before: [u64; 112], p: OamPort) -> [u64; 112] {
-    say::small(b"address ", p.address);
-    say::byte(b", latch ", p.write_latch);
+    let numbers = [p.address as u64, p.write_latch as u64];
+    say::told(b"address #, latch #", &numbers);
     let mut c = before;
     c[cells::ADDRESS] = p.address as u64;
     c[cells::LATCH] = p.write_latch as u64;
@@ -23,14 +25,13 @@ fn left(before: [u64; 112], p: OamPort) -> [u64; 112] {
 }
 
 fn new_port(c: [u64; 112]) -> [u64; 112] {
-    say::begin();
+    say::verdict(Verdict::Fine);
     left(c, OamPort::new())
 }
 
 fn address(c: [u64; 112], value: u64) -> [u64; 112] {
     let answer = port_of(c).write_addr(cells::word(value));
     let verdict = answer.verdict;
-    say::begin();
     say::verdict(verdict);
     left(c, answer.port)
 }
@@ -57,8 +58,8 @@ fn changed(before: [u8; 545], oam: &[u8]) {
 
 fn byte(i: usize, before: u8, after: u8) {
     if before != after {
-        say::number(b", byte ", i as u64);
-        say::byte(b" is ", after);
+        let numbers = [i as u64, after as u64];
+        say::told(b", byte # is #", &numbers);
     }
 }
 
@@ -67,16 +68,15 @@ fn write(oam: &mut [u8], value: u64, c: [u64; 112]) -> [u64; 112] {
     let n = cells::lent(c[58], oam);
     let answer = port_of(c).write_data(&mut oam[..n], cells::byte(value));
     let verdict = answer.verdict;
-    say::begin();
     say::verdict(verdict);
     let after = left(c, answer.port);
     changed(before, oam);
     after
 }
 
-fn value(byte: ByteAnswer) {
+fn value(byte: ByteAnswer) -> u64 {
     match byte {
-        ByteAnswer::Is(b) => say::byte(b"", b),
+        ByteAnswer::Is(b) => b as u64,
         ByteAnswer::Refused(r) => say::refused(r),
     }
 }
@@ -85,9 +85,8 @@ fn read(oam: &[u8], c: [u64; 112]) -> [u64; 112] {
     let n = cells::lent(c[58], oam);
     let answer = port_of(c).read_data(&oam[..n]);
     let byte = answer.byte;
-    say::begin();
-    value(byte);
-    say::words(b", ");
+    let numbers = [value(byte)];
+    say::told(b" -> #, ", &numbers);
     left(c, answer.port)
 }
 
@@ -98,15 +97,10 @@ fn flags_of(c: [u64; 112]) -> OamFlags {
     }
 }
 
-fn one(b: bool) -> u64 {
-    if b { 1 } else { 0 }
-}
-
 // Writes the flags, and keeps them.
 fn flagged(before: [u64; 112], f: OamFlags) -> [u64; 112] {
-    say::begin();
-    say::bit(b"time ", f.time_over);
-    say::bit(b", range ", f.range_over);
+    let numbers = [one(f.time_over), one(f.range_over)];
+    say::told(b" -> time #, range #", &numbers);
     let mut c = before;
     c[cells::TIME] = one(f.time_over);
     c[cells::RANGE] = one(f.range_over);
@@ -123,13 +117,13 @@ fn kept(c: [u64; 112]) -> [u64; 112] {
 // The cells after a statement.
 pub(crate) fn ask(oam: &mut [u8], verb: usize, n: u64, c: [u64; 112]) -> [u64; 112] {
     match verb {
-        32 => new_port(c),
-        33 => address(c, n),
-        34 => write(oam, n, c),
-        35 => read(oam, c),
-        36 => flagged(c, OamFlags::new()),
-        37 => kept(c),
-        38 => flagged(c, flags_of(c).clear_flags()),
+        9 => new_port(c),
+        10 => address(c, n),
+        11 => write(oam, n, c),
+        12 => read(oam, c),
+        13 => flagged(c, OamFlags::new()),
+        14 => kept(c),
+        15 => flagged(c, flags_of(c).clear_flags()),
         _ => c,
     }
 }

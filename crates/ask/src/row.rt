@@ -3,6 +3,7 @@ use crate::cells;
 use crate::say;
 use choice::Chosen;
 use choice::VisibleSprite;
+use digest::one;
 use line::Candidate;
 use oam::Sprite;
 use oam::SpriteAnswer;
@@ -24,31 +25,35 @@ fn tile_pixel(vram: &[u16], n: u64, c: [u64; 112]) {
     let bpp = cells::depth(c[cells::BPP]);
     let x = c[cells::X] as usize;
     let y = c[cells::Y] as usize;
-    say::begin();
     match pixel(vram, bpp, n as usize, x, y) {
-        IndexAnswer::Is(n) => say::byte(b"", n),
-        IndexAnswer::Refused(r) => say::refused(r),
+        IndexAnswer::Is(n) => say::single(n as u64),
+        IndexAnswer::Refused(r) => say::single(say::refused(r)),
     }
 }
 
 fn told(s: Sprite) {
-    say::small(b"x9 ", oam::nine_bits(s.x));
-    say::byte(b", top ", s.y);
-    say::byte(b", tile ", s.tile);
-    say::small(b", base ", s.chr_base);
-    say::byte(b", table ", s.name_table);
-    say::byte(b", palette ", s.palette);
-    say::byte(b", priority ", s.priority);
-    say::bit(b", flip x ", s.flip_x);
-    say::bit(b", flip y ", s.flip_y);
-    say::bit(b", large ", s.large);
+    let numbers = [
+        oam::nine_bits(s.x) as u64,
+        s.y as u64,
+        s.tile as u64,
+        s.chr_base as u64,
+        s.name_table as u64,
+        s.palette as u64,
+        s.priority as u64,
+        one(s.flip_x),
+        one(s.flip_y),
+        one(s.large),
+    ];
+    say::told(
+        b" -> x9 #, top #, tile #, base #, table #, palette #, priority #, flip x #, flip y #, large #",
+        &numbers,
+    );
 }
 
 fn get_sprite(oam: &[u8], index: u8, objsel: u8) {
-    say::begin();
     match oam::get_sprite(oam, index, objsel) {
         SpriteAnswer::Is(s) => told(s),
-        SpriteAnswer::Refused(r) => say::refused(r),
+        SpriteAnswer::Refused(r) => say::single(say::refused(r)),
     }
 }
 
@@ -63,18 +68,23 @@ fn blank(p: VisibleSprite) -> bool {
 // A place of the list: its number, or what a place beyond the list must not hold.
 fn place(p: VisibleSprite, within: bool) {
     if within {
-        say::byte(b" ", p.index);
+        let numbers = [p.index as u64];
+        say::told(b" #", &numbers);
         return;
     }
-    say::flag(!blank(p), b" and more");
+    if !blank(p) {
+        io::write_all(1, b" and more");
+    }
 }
 
 fn chosen(c: Chosen) {
-    say::number(b"", c.count as u64);
-    say::number(b" chosen, ", c.tiles as u64);
-    say::bit(b" tiles, time ", c.time_over);
-    say::bit(b", range ", c.range_over);
-    say::words(b":");
+    let numbers = [
+        c.count as u64,
+        c.tiles as u64,
+        one(c.time_over),
+        one(c.range_over),
+    ];
+    say::told(b"# chosen, # tiles, time #, range #:", &numbers);
     for k in 0..32usize {
         place(c.sprites[k], k < c.count);
     }
@@ -84,32 +94,19 @@ fn choose(oam: &[u8], r: PPURegisters, y: usize) {
     let answer = choice::eval_sprites_for_scanline(oam, y, r.objsel, r.oamadd, r.obj_interlace());
     let verdict = answer.verdict;
     let c = answer.chosen;
-    say::begin();
     say::verdict(verdict);
     chosen(c);
 }
 
 // A column of the sprite line, in two digits.
-fn digits(c: Candidate) {
+fn digits(line: [Candidate; 256], from: u8, k: u8) -> u64 {
+    let c = line[(from as usize + k as usize) % 256];
     let p = c.pixel;
     if c.opaque {
-        say::words(b" ");
-        io::print_hex(1, (p.color % 256) as u64, 2);
-        return;
+        say::DIGITS + p.color as u64 % 256
+    } else {
+        say::NO_DIGITS
     }
-    say::words(b" --");
-}
-
-// Eight columns of a sprite line from one on, how many of all hold a pixel, and the first of the eight.
-fn shown(verdict: Verdict, line: [Candidate; 256], from: u8) {
-    say::begin();
-    say::verdict(verdict);
-    say::number(b"", pixels(line));
-    say::words(b" pixels:");
-    for k in 0..8usize {
-        digits(line[(from as usize + k) % 256]);
-    }
-    say::candidate(b", first ", line[from as usize]);
 }
 
 // The columns that hold a pixel.
@@ -117,16 +114,37 @@ fn pixels(line: [Candidate; 256]) -> u64 {
     let mut n: u64 = 0;
     for x in 0..256usize {
         let c = line[x];
-        n = n % 512 + digest::one(c.opaque);
+        n = n % 512 + one(c.opaque);
     }
     n
+}
+
+// Four columns of the sprite line.
+fn four(line: [Candidate; 256], from: u8) {
+    let numbers = [
+        digits(line, from, 0),
+        digits(line, from, 1),
+        digits(line, from, 2),
+        digits(line, from, 3),
+    ];
+    say::told(b" # # # #", &numbers);
+}
+
+// How many columns of a sprite line hold a pixel, eight of them from one on, and the first of these.
+fn shown(line: [Candidate; 256], from: u8) {
+    let numbers = [pixels(line)];
+    say::told(b"# pixels:", &numbers);
+    four(line, from);
+    four(line, ((from as u16 + 4) % 256) as u8);
+    say::candidate(b", first # # # math#", line[from as usize]);
 }
 
 fn sprite_line(vram: &[u16], cgram: &[u16], oam: &[u8], r: PPURegisters, y: usize, from: u8) {
     let answer = sprites::sprite_line(vram, cgram, oam, r, y);
     let verdict = answer.verdict;
     let line = answer.line;
-    shown(verdict, line, from);
+    say::verdict(verdict);
+    shown(line, from);
 }
 
 // Draws a row into a lent one.
@@ -134,13 +152,7 @@ fn row(lent: &mut [u8], vram: &[u16], cgram: &[u16], oam: &[u8], r: PPURegisters
     let n = cells::lent(c[59], lent);
     let y = c[cells::ROW] as usize;
     let verdict = renderer::render_scanline(&mut lent[..n], vram, cgram, oam, r, y);
-    let m = cells::lent(c[59], lent);
-    say::drawn(verdict, &lent[..m], c, 0);
-}
-
-fn scanline(vram: &[u16], cgram: &[u16], oam: &[u8], r: PPURegisters, c: [u64; 112]) {
-    let mut lent = [7u8; 769];
-    row(&mut lent, vram, cgram, oam, r, c);
+    say::drawn(verdict, lent, c[59], c, 0);
 }
 
 // Draws a row into a lent picture.
@@ -148,8 +160,12 @@ fn part(lent: &mut [u8], vram: &[u16], cgram: &[u16], oam: &[u8], r: PPURegister
     let n = cells::lent(c[60], lent);
     let y = c[cells::ROW] as usize;
     let verdict = renderer::render_into_picture(&mut lent[..n], vram, cgram, oam, r, y);
-    let m = cells::lent(c[60], lent);
-    say::drawn(verdict, &lent[..m], c, c[cells::ROW]);
+    say::drawn(verdict, lent, c[60], c, c[cells::ROW]);
+}
+
+fn scanline(vram: &[u16], cgram: &[u16], oam: &[u8], r: PPURegisters, c: [u64; 112]) {
+    let mut lent = [7u8; 769];
+    row(&mut lent, vram, cgram, oam, r, c);
 }
 
 fn picture(vram: &[u16], cgram: &[u16], oam: &[u8], r: PPURegisters, c: [u64; 112]) {
@@ -173,25 +189,24 @@ fn numbered(second: bool) -> [u8; 172033] {
 
 // A part: its length, and how many of its bytes are as its first.
 fn handed(part: &[u8]) {
-    say::number(b"", part.len() as u64);
-    say::words(b" bytes");
     if 0 < part.len() {
         let first = part[0];
-        say::number(b", ", count(part, first));
-        say::byte(b" of them ", first);
+        let numbers = [part.len() as u64, count(part, first), say::wide(first)];
+        say::told(b"# bytes, # of them #", &numbers);
+        return;
     }
+    io::write_all(1, b"0 bytes");
 }
 
 fn count(part: &[u8], value: u8) -> u64 {
     let mut n: u64 = 0;
     for i in 0..part.len() {
-        n = n % 262144 + digest::one(part[i] == value);
+        n = n % 262144 + one(part[i] == value);
     }
     n
 }
 
 fn of_two<'a>(first: &'a [u8], second: &'a [u8], choice: usize, y: usize) {
-    say::begin();
     say::verdict(pictures::check_picture_row(first, second, choice, y));
     handed(pictures::picture_row(first, second, choice, y));
 }
@@ -215,22 +230,22 @@ fn drawn(vram: &[u16], cgram: &[u16], oam: &[u8], verb: usize, n: u64, c: [u64; 
     let x = c[cells::COLUMN] as usize;
     let y = c[cells::ROW] as usize;
     match verb {
-        96 => tile_pixel(vram, n, c),
-        97 => get_sprite(oam, cells::byte(n), r.objsel),
-        98 => choose(oam, r, y),
-        99 => sprite_line(vram, cgram, oam, r, y, cells::byte(c[cells::FROM])),
-        100 => say::candidates(sprites::sprite_candidates(vram, cgram, oam, r, x, y)),
-        101 => say::candidates(background::bg_candidates(vram, cgram, r, cells::params(c), x, y)),
-        102 => say::candidates(layers::layer_candidates(vram, cgram, oam, r, x, y, n as usize)),
-        103 => scanline(vram, cgram, oam, r, c),
-        104 => picture(vram, cgram, oam, r, c),
+        41 => tile_pixel(vram, n, c),
+        42 => get_sprite(oam, cells::byte(n), r.objsel),
+        43 => choose(oam, r, y),
+        44 => sprite_line(vram, cgram, oam, r, y, cells::byte(c[cells::FROM])),
+        45 => say::candidates(sprites::sprite_candidates(vram, cgram, oam, r, x, y)),
+        46 => say::candidates(background::bg_candidates(vram, cgram, r, cells::params(c), x, y)),
+        47 => say::candidates(layers::layer_candidates(vram, cgram, oam, r, x, y, n as usize)),
+        48 => scanline(vram, cgram, oam, r, c),
+        49 => picture(vram, cgram, oam, r, c),
         _ => picture_row(c),
     }
 }
 
 pub(crate) fn ask(vram: &[u16], cgram: &[u16], oam: &[u8], verb: usize, n: u64, c: [u64; 112]) {
     match verb {
-        96..=105 => {
+        41..=50 => {
             let v = cells::lent_words(c[56], vram);
             let g = cells::lent_words(c[57], cgram);
             let o = cells::lent(c[58], oam);

@@ -1,4 +1,4 @@
-// Writing an answer.
+// Writing an answer: a text in which each # stands for a number.
 use crate::cells;
 use digest::one;
 use laying::CandidatesAnswer;
@@ -10,148 +10,186 @@ use refusal::Refusal;
 use refusal::Verdict;
 use registers::BoolAnswer;
 use registers::WordAnswer;
+use script::Stop;
+use script::seek;
 
-pub(crate) fn words(text: &[u8]) {
-    io::write_all(1, text);
-}
+// A number is written as it is, unless it is a kind, times this, and a value.
+const KIND: u64 = 4294967296;
 
-// What stands between a statement and its answer.
-pub(crate) fn begin() {
-    words(b" -> ");
-}
+const REFUSED: u64 = 4294967296;
 
-// Words and a number.
-pub(crate) fn number(text: &[u8], n: u64) {
-    words(text);
-    io::print_decimal(1, n);
-}
+// a name of the list of names
+const NAME: u64 = 8589934592;
 
-// Words and a number of 16 bits.
-pub(crate) fn small(text: &[u8], n: u16) {
-    number(text, n as u64);
-}
+// a number below 0
+pub(crate) const MINUS: u64 = 12884901888;
 
-// Words and a byte.
-pub(crate) fn byte(text: &[u8], n: u8) {
-    number(text, n as u64);
-}
+// two digits
+pub(crate) const DIGITS: u64 = 17179869184;
 
-// Words, and 1 for yes or 0 for no.
-pub(crate) fn bit(text: &[u8], on: bool) {
-    if on {
-        number(text, 1);
-    } else {
-        number(text, 0);
+// nothing but the text before it
+const NOTHING: u64 = 21474836480;
+
+// not even that
+pub(crate) const LEFT_OUT: u64 = 25769803776;
+
+pub(crate) const NONE: u64 = 8589934598;
+
+pub(crate) const NO_DIGITS: u64 = 8589934599;
+
+// Writes a part of a text.
+pub(crate) fn part(text: &[u8], from: usize, to: usize) {
+    if from <= to {
+        if to <= text.len() {
+            io::write_all(1, &text[from..to]);
+        }
     }
 }
 
-// Words, where `on` says so.
-pub(crate) fn flag(on: bool, text: &[u8]) {
-    if on {
-        words(text);
+// Writes the k-th of the names.
+fn name(k: u64) {
+    let names = b"BG1      BG2      BG3      BG4      OBJ      backdrop none     --";
+    let from = (k % 8 * 9) as usize;
+    part(names, from, seek(names, from, Stop::End));
+}
+
+fn value(n: u64) {
+    let low = n % KIND;
+    match n / KIND {
+        0 => {
+            io::print_decimal(1, low);
+        }
+        1 => {
+            io::write_all(1, b"refused ");
+            io::print_decimal(1, low);
+        }
+        2 => name(low),
+        3 => {
+            io::write_all(1, b"-");
+            io::print_decimal(1, low);
+        }
+        4 => {
+            io::print_hex(1, low % 256, 2);
+        }
+        _ => {}
     }
 }
 
-pub(crate) fn refused(r: Refusal) {
-    number(b"refused ", r.number() as u64);
+// The next # of a text from a place on.
+fn mark(text: &[u8], from: usize) -> usize {
+    for i in from..text.len() {
+        if text[i] == b'#' {
+            return i;
+        }
+    }
+    text.len()
 }
 
-// A refusal, before what comes back beside it.
+// Writes a text from a place up to its next number, and that; answers the place after it.
+fn item(text: &[u8], from: usize, n: u64) -> usize {
+    let to = mark(text, from);
+    if n < LEFT_OUT {
+        part(text, from, to);
+        value(n);
+    }
+    if to < text.len() { to + 1 } else { to }
+}
+
+// Writes a text and its numbers.
+pub(crate) fn told(text: &[u8], numbers: &[u64]) {
+    let mut at: usize = 0;
+    for k in 0..numbers.len() {
+        at = item(text, at, numbers[k]);
+    }
+    part(text, at, text.len());
+}
+
+// Writes one number as the answer.
+pub(crate) fn single(n: u64) {
+    let numbers = [n];
+    told(b" -> #", &numbers);
+}
+
+pub(crate) fn refused(r: Refusal) -> u64 {
+    REFUSED + r.number() as u64
+}
+
+// Begins an answer in which a refusal stands before what comes back beside it.
 pub(crate) fn verdict(v: Verdict) {
     match v {
-        Verdict::Fine => {}
+        Verdict::Fine => {
+            io::write_all(1, b" -> ");
+        }
         Verdict::Refused(r) => {
-            refused(r);
-            words(b", ");
+            single(refused(r));
+            io::write_all(1, b", ");
         }
     }
 }
 
-pub(crate) fn truth(text: &[u8], answer: BoolAnswer) {
+pub(crate) fn truth(answer: BoolAnswer) -> u64 {
     match answer {
-        BoolAnswer::Is(b) => bit(text, b),
-        BoolAnswer::Refused(r) => {
-            words(text);
-            refused(r);
-        }
+        BoolAnswer::Is(b) => one(b),
+        BoolAnswer::Refused(r) => refused(r),
     }
 }
 
-pub(crate) fn word(text: &[u8], answer: WordAnswer) {
+pub(crate) fn word(answer: WordAnswer) -> u64 {
     match answer {
-        WordAnswer::Is(n) => small(text, n),
-        WordAnswer::Refused(r) => {
-            words(text);
-            refused(r);
-        }
+        WordAnswer::Is(n) => n as u64,
+        WordAnswer::Refused(r) => refused(r),
     }
 }
 
-pub(crate) fn layer(l: Layer) {
+pub(crate) fn layer(l: Layer) -> u64 {
     match l {
-        Layer::Backdrop => words(b"backdrop"),
-        Layer::Bg1 => words(b"BG1"),
-        Layer::Bg2 => words(b"BG2"),
-        Layer::Bg3 => words(b"BG3"),
-        Layer::Bg4 => words(b"BG4"),
-        Layer::Obj => words(b"OBJ"),
+        Layer::Bg1 => NAME,
+        Layer::Bg2 => NAME + 1,
+        Layer::Bg3 => NAME + 2,
+        Layer::Bg4 => NAME + 3,
+        Layer::Obj => NAME + 4,
+        Layer::Backdrop => NAME + 5,
     }
 }
 
-// A priority as a number: how many of the priorities 1 to 255 it covers.
-fn rank(z: Priority) -> u64 {
-    let mut k: u64 = 0;
-    for n in 0..255u8 {
-        if z.covers(Priority::new(n + 1)) {
-            k = k % 256 + 1;
-        }
-    }
-    k
+pub(crate) fn priority(z: Priority) -> u64 {
+    let rank = line::inner::rank(z) as u64;
+    if rank > 0 { rank - 1 } else { 0 }
 }
 
-// Words and a priority.
-pub(crate) fn priority(text: &[u8], z: Priority) {
-    number(text, rank(z));
+// Is what stands before a number shown?
+fn shown(on: bool) -> u64 {
+    if on { NOTHING } else { LEFT_OUT }
 }
 
-// Words and a pixel: its colour, its layer and its priority, and whether it has the math mark.
-pub(crate) fn pixel(text: &[u8], p: LinePixel) {
-    let l = p.layer;
-    let z = p.z;
-    small(text, p.color);
-    words(b" ");
-    layer(l);
-    priority(b" ", z);
-    flag(p.obj_math, b" math");
-}
-
-// Words and a pixel, if there is one.
+// Writes a pixel, if there is one: its colour, its layer and its priority, and whether it has the math
+// mark.
 pub(crate) fn candidate(text: &[u8], c: Candidate) {
     let p = c.pixel;
     if c.opaque {
         pixel(text, p);
         return;
     }
-    words(text);
-    words(b"none");
+    let numbers = [NONE, LEFT_OUT, LEFT_OUT, LEFT_OUT];
+    told(text, &numbers);
 }
 
-// A column of both lines.
-pub(crate) fn both(main: LinePixel, sub: LinePixel) {
-    pixel(b"main ", main);
-    pixel(b", sub ", sub);
+pub(crate) fn pixel(text: &[u8], p: LinePixel) {
+    let l = p.layer;
+    let z = p.z;
+    let numbers = [p.color as u64, layer(l), priority(z), shown(p.obj_math)];
+    told(text, &numbers);
 }
 
 pub(crate) fn candidates(answer: CandidatesAnswer) {
-    begin();
     match answer {
         CandidatesAnswer::Is(c) => {
             let main = c.main;
             let sub = c.sub;
-            candidate(b"main ", main);
-            candidate(b", sub ", sub);
+            candidate(b" -> main # # # math#", main);
+            candidate(b", sub # # # math#", sub);
         }
-        CandidatesAnswer::Refused(r) => refused(r),
+        CandidatesAnswer::Refused(r) => single(refused(r)),
     }
 }
 
@@ -169,32 +207,38 @@ fn counts(lent: &[u8], value: u8) {
         black = black % 262144 + one(b == 0);
         same = same % 262144 + one(b == value);
     }
-    number(b"", changed);
-    number(b" changed, first ", first);
-    number(b", black ", black);
-    number(b", value ", same);
+    let numbers = [changed, first, black, same];
+    told(b"# changed, first #, black #, value #", &numbers);
+}
+
+pub(crate) fn wide(b: u8) -> u64 {
+    b as u64
 }
 
 // A column of three bytes.
 fn column(text: &[u8], lent: &[u8], at: usize) {
     if at < lent.len() {
         if lent.len() - at > 2 {
-            byte(text, lent[at]);
-            byte(b" ", lent[at + 1]);
-            byte(b" ", lent[at + 2]);
+            let numbers = [wide(lent[at]), wide(lent[at + 1]), wide(lent[at + 2])];
+            told(text, &numbers);
         }
     }
 }
 
 // What a call left of a lent row or picture: the counts of its bytes, or a column of a row and the next.
-pub(crate) fn drawn(v: Verdict, lent: &[u8], c: [u64; 112], row: u64) {
-    begin();
-    verdict(v);
+fn left(lent: &[u8], c: [u64; 112], row: u64) {
     if c[cells::COUNT] == 1 {
         counts(lent, cells::byte(c[cells::VALUE]));
         return;
     }
     let at = (row % 256 * 768 + c[cells::COLUMN] % 256 * 3) as usize;
-    column(b"", lent, at);
-    column(b", ", lent, at + 3);
+    column(b"# # #", lent, at);
+    column(b", # # #", lent, at + 3);
+}
+
+// The same, of what was lent of a memory.
+pub(crate) fn drawn(v: Verdict, memory: &[u8], wanted: u64, c: [u64; 112], row: u64) {
+    verdict(v);
+    let n = cells::lent(wanted, memory);
+    left(&memory[..n], c, row);
 }

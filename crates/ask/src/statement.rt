@@ -18,65 +18,26 @@ pub(crate) struct Statement {
     pub(crate) bad: bool,
 }
 
-// No verb, and a verb that there is not.
-const NOTHING: usize = 254;
-
 // The verb that forgets what was set.
 const NEW: usize = 4;
 
-const UNKNOWN: usize = 255;
+// A verb that there is not, and no verb.
+const UNKNOWN: usize = 51;
 
-// The verb of a statement: settings from 0 on, memories from 16, port and flags from 32, lines from 48,
-// what needs no memory from 64, what is drawn from memory from 96.
+const NOTHING: usize = 52;
+
+// The verb of a statement: settings from 0 on, memories from 5, port and flags from 9, lines from 16,
+// what needs no memory from 25 (by registers) and 35 (by numbers), what is drawn from memory from 41.
 fn verb_of(s: &[u8], from: usize, to: usize) -> usize {
     if from >= to {
         return NOTHING;
     }
-    let k = place(b"reg bg lend port new", s, from, to);
-    if k < 5 {
-        return k;
-    }
-    let k = place(b"vram cgram oam sprite", s, from, to);
-    if k < 4 {
-        return 16 + k;
-    }
-    let k = place(
-        b"port-new port-address port-write port-read flags-new flags-keep flags-clear",
+    place(
+        b"reg bg lend port new vram cgram oam sprite port-new port-address port-write port-read flags-new flags-keep flags-clear lines main sub backdrops bg-line sprites layer composite deposit layer-bits windows window background mosaic sprite-size bg-mode bg-params bg-lit offset brightness direct-color color-math tile-words map-entry layer-of tile-pixel get-sprite choose sprite-line sprite-candidates bg-candidates layer-candidates scanline picture picture-row",
         s,
         from,
         to,
-    );
-    if k < 7 {
-        return 32 + k;
-    }
-    let k = place(
-        b"lines main sub backdrops bg-line sprites layer composite deposit",
-        s,
-        from,
-        to,
-    );
-    if k < 9 {
-        return 48 + k;
-    }
-    let k = place(
-        b"layer-bits windows window background mosaic brightness direct-color color-math tile-words map-entry layer-of sprite-size bg-mode bg-params bg-lit offset",
-        s,
-        from,
-        to,
-    );
-    if k < 16 {
-        return 64 + k;
-    }
-    let k = place(
-        b"tile-pixel get-sprite choose sprite-line sprite-candidates bg-candidates layer-candidates scanline picture picture-row",
-        s,
-        from,
-        to,
-    );
-    if k < 10 {
-        return 96 + k;
-    }
-    UNKNOWN
+    )
 }
 
 // A word that was not understood.
@@ -149,7 +110,7 @@ fn step(s: &[u8], q: Statement) -> Statement {
 // The cells that a verb begins with.
 fn settled(kept: [u64; 112], verb: usize) -> [u64; 112] {
     if verb == NEW {
-        return cells::renewed(kept);
+        return cells::fresh(kept[cells::LINE]);
     }
     cells::without(kept)
 }
@@ -166,12 +127,6 @@ fn begun(kept: [u64; 112], verb: usize, stop: usize) -> Statement {
         more: known,
         bad: !known,
     }
-}
-
-// A statement of which something was not understood: it says nothing, and neither does the rest of its
-// line.
-fn refused(kept: [u64; 112], stop: usize) -> Statement {
-    begun(kept, UNKNOWN, stop)
 }
 
 // Is n among the places from the first number to the one that is named `to`?
@@ -195,8 +150,9 @@ pub(crate) fn read(s: &[u8], from: usize, kept: [u64; 112]) -> Statement {
     let a = seek(s, from, Stop::Word);
     let b = seek(s, a, Stop::End);
     let q = whole(s, begun(kept, verb_of(s, a, b), b));
+    // What was not understood says nothing, and neither does the rest of its line.
     if q.bad | q.more {
-        return refused(kept, seek(s, from, Stop::Line));
+        return begun(kept, UNKNOWN, seek(s, from, Stop::Line));
     }
     q
 }

@@ -6,10 +6,10 @@ use Rattle.ask.proofs.say.counts.Statement.{statement}
 use Rattle.ask.proofs.say.counts.Tie as tie
 
 abbrev Inv-loop : tie.InvT-loop
-Inv-loop lent value changed₀ first₀ black₀ same₀ i₀ t9 t10 t11 t12 i-end changed first black same i = i-end ≡ length lent
+Inv-loop lent value changed₀ first₀ black₀ same₀ i₀ t10 i-end changed first black same i = i-end ≡ length lent
 
 abbrev μ-loop : tie.MeasureT-loop
-μ-loop lent value changed₀ first₀ black₀ same₀ i₀ t9 t10 t11 t12 i-end changed first black same i = i-end - i
+μ-loop lent value changed₀ first₀ black₀ same₀ i₀ t10 i-end changed first black same i = i-end - i
 
 pub counts-spec : {M : Type 1} → statement M
 counts-spec =
@@ -31,11 +31,6 @@ counts-spec =
     (λ c. search needs)
     (λ c. search needs)
     (λ c. search needs)
-    (λ c κs. search needs)
-    (λ c. search needs)
-    (λ c κs. search needs)
-    (λ c. search needs)
-    (λ c κs. search needs)
     (λ c. search needs)
     (λ c κs. search needs)
     (λ c. search needs))
