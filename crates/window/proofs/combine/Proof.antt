@@ -1,9 +1,15 @@
+use mathlib.Core.Path.{sym, _∙_}
+use Rattle.window.specs.Window.{combined}
 use borrow.Author.Needs.{needs}
 use Rattle.window.proofs.combine.Statement.{statement}
 use Rattle.window.proofs.combine.Tie as tie
 
 returns : tie.Need-returns
-returns c = cc
+returns c =
+    let both = c .before in
+    let a = both .before .before .args in
+    c .by-logic .ensures
+    ∙ sym (λ i. combined (both .before .if1 .taken i) (both .if2 .taken i) (a .logic) (a .w1) (a .w2))
 
 pub combine-spec : {M : Type 1} → statement M
 combine-spec = tie.close (tie.spec (λ c κs. search needs) returns (λ c. search needs) (λ c. search needs) (λ c. search needs))

@@ -1,9 +1,14 @@
+use Prim.Native.Nat.{_*_, _/_, _%_, _^_}
+use mathlib.Core.Path.{_∙_}
+use Rattle.windows.specs.Windows.{windowOf}
 use borrow.Author.Needs.{needs}
 use Rattle.windows.proofs.inner.bg_window.Statement.{statement}
 use Rattle.windows.proofs.inner.bg_window.Tie as tie
 
 returns : tie.Need-returns
-returns c = cc
+returns c =
+    let a = c .before .before .before .args in
+    c .window .ensures ∙ (λ i. windowOf (a .r) (c .before .before .nibble .ensures .0 i) (a .r .wbglog / 2 ^ (2 * a .bg) % 4))
 
 pub bg-window-spec : {M : Type 1} → statement M
 bg-window-spec =
