@@ -13,29 +13,30 @@ use registers::WordAnswer;
 use script::Stop;
 use script::seek;
 
-// A number is written as it is, unless it is a kind, times this, and a value.
-const KIND: u64 = 4294967296;
+// A number below this is written as it is. A greater one is a kind, times this, and a value.
+const KIND: u64 = 0x100000000;
 
-const REFUSED: u64 = 4294967296;
+// A refusal, by its number.
+const REFUSED: u64 = 0x100000000;
 
-// a name of the list of names
-const NAME: u64 = 8589934592;
+// A name, by its place in the list of names.
+const NAME: u64 = 0x200000000;
 
-// a number below 0
-pub(crate) const MINUS: u64 = 12884901888;
+pub(crate) const NONE: u64 = 0x200000006;
 
-// two digits
-pub(crate) const DIGITS: u64 = 17179869184;
+pub(crate) const NO_DIGITS: u64 = 0x200000007;
 
-// nothing but the text before it
-const NOTHING: u64 = 21474836480;
+// A number below 0, without its sign.
+pub(crate) const MINUS: u64 = 0x300000000;
 
-// not even that
-pub(crate) const LEFT_OUT: u64 = 25769803776;
+// A byte in two digits.
+pub(crate) const DIGITS: u64 = 0x400000000;
 
-pub(crate) const NONE: u64 = 8589934598;
+// Nothing: of the text before it, that is all.
+const NOTHING: u64 = 0x500000000;
 
-pub(crate) const NO_DIGITS: u64 = 8589934599;
+// Left out, and the text before it with it.
+pub(crate) const LEFT_OUT: u64 = 0x600000000;
 
 // Writes a part of a text.
 pub(crate) fn part(text: &[u8], from: usize, to: usize) {
