@@ -39,7 +39,7 @@ fn side(is64: bool) -> u64 {
     if is64 { 64 } else { 32 }
 }
 
-// Words and the two numbers of an answer.
+// The two numbers of an answer, or its refusal alone.
 fn size(answer: SizeAnswer) -> [u64; 2] {
     match answer {
         SizeAnswer::Is(s) => [side(s.w64), side(s.h64)],

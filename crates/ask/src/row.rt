@@ -7,7 +7,6 @@ use digest::one;
 use line::Candidate;
 use oam::Sprite;
 use oam::SpriteAnswer;
-use refusal::Verdict;
 use registers::PPURegisters;
 use tiles::BitDepth;
 use tiles::IndexAnswer;

@@ -212,6 +212,7 @@ fn counts(lent: &[u8], value: u8) {
     told(b"# changed, first #, black #, value #", &numbers);
 }
 
+// A byte of a memory as a number of an answer.
 pub(crate) fn wide(b: u8) -> u64 {
     b as u64
 }

@@ -1,7 +1,5 @@
 use borrow.Author.Needs.{needs}
 use Prim.Native.Nat.{_-_}
-use lib.ListN.{length}
-use mathlib.Core.Path.{_≡_}
 use Rattle.ask.proofs.row.chosen.Statement.{statement}
 use Rattle.ask.proofs.row.chosen.Tie as tie
 

@@ -1,9 +1,8 @@
-use Prim.Native.Nat.{ℕ, _+_, _-_, _*_}
+use Prim.Native.Nat.{ℕ, _+_, _-_}
 use mathlib.Core.Path.{_≡_, ap, _∙_}
 use native.Mathlib.Omega.{arith}
 use lib.ListN.{length}
 use denote.Ref.{now}
-use Rattle.scene_bytes.specs.Bytes.{wordsOf}
 use Rattle.scene.specs.File.{bodyAt}
 use borrow.Author.Needs.{needs}
 use Rattle.scene.proofs.inner.fill_bytes.Statement.{statement}
