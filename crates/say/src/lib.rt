@@ -1,4 +1,6 @@
 // What every program writes in the same way.
+pub mod inner;
+
 use refusal::Refusal;
 use refusal::Verdict;
 ghost use mathlib.Core.Path.{_≡_};
@@ -6,12 +8,19 @@ ghost use Rattle.refusal.specs.Numbers.{numberOf};
 ghost use Rattle.refusal.specs.Answer.{refused};
 ghost use Rattle.refusal.specs.Verdicts.{verdictMeans};
 
+// A line: the first `size` bytes of its text.
+pub struct Line {
+    pub text: [u8; 11],
+    pub size: usize,
+}
+
 // Writes a refusal's line, "refused N", to standard output, and hands the refusal on.
 pub fn refuse(n: Refusal) -> Verdict
     ensures { λ v. ⌜ verdictMeans v ≡ refused (numberOf n) ⌝ }
 {
-    io::write_all(1, b"refused ");
-    io::print_decimal(1, n.number() as u64);
-    io::write_all(1, b"\n");
+    let line = inner::refusal_line(n);
+    let text = line.text;
+    let size = line.size;
+    io::write_all(1, &text[..size]);
     Verdict::Refused(n)
 }

@@ -1,0 +1,21 @@
+// The text of a line, for whoever writes it.
+use crate::Line;
+use refusal::Refusal;
+ghost use Rattle.refusal.specs.Numbers.{numberOf};
+ghost use Rattle.say.specs.Lines.{Spelt, refusedLine};
+
+// A refusal's line.
+pub fn refusal_line(n: Refusal) -> Line
+    ensures { λ l. ⌜ Spelt l (refusedLine (numberOf n)) ⌝ }
+{
+    let k = n.number();
+    if k < 10 {
+        let mut text = *b"refused 0\n\0";
+        text[8] = 48 + k;
+        return Line { text, size: 10 };
+    }
+    let mut text = *b"refused 00\n";
+    text[8] = 48 + k / 10;
+    text[9] = 48 + k % 10;
+    Line { text, size: 11 }
+}
