@@ -1,2 +1,2 @@
-mod Said
+mod Read
 mod Walk

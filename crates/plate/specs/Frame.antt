@@ -1,10 +1,11 @@
--- The scenes of a frame's rows, and what its reader may say.
-use Prim.Native.Nat.{ℕ, zero, suc, _-_}
+-- The plate of a scene: the rows of its frame, and the bytes that the frame program writes.
+use Prim.Native.Nat.{ℕ, zero, suc, _+_, _-_, _*_, _≤_, min}
 use mathlib.Core.Path.{_≡_}
-use mathlib.Core.Bool.{Bool, true, cond, _||_}
-use mathlib.Core.List.{List}
-use lib.Dec.{leb, eqb}
-use Rattle.refusal.specs.Answer.{Answer, value, refused}
+use mathlib.Core.Bool.{cond}
+use mathlib.Core.Logic.{_⊎_}
+use mathlib.Core.List.{List, [], _∷_, _++_}
+use lib.Dec.{leb}
+use lib.ListN.{length, take, drop}
 use Rattle.registers.specs.declared.PPURegisters.{PPURegisters}
 use Rattle.registers.specs.Replaced.{withCounter}
 use Rattle.registers.specs.Scene.{Scene, scene}
@@ -24,15 +25,35 @@ counterAt r (suc y) = counterAfter r (counterAt r y)
 unfoldable pub frameRow : Scene → ℕ → List ℕ
 frameRow s y = rowOf (scene (withCounter (counterAt (s .regs) y) (s .regs)) (s .vram) (s .cgram) (s .oam)) y
 
--- what a row holds that y rows of the frame were drawn into, one after another: the last of them
-unfoldable pub drawnInto : Scene → List ℕ → ℕ → List ℕ
-drawnInto s row zero = row
-drawnInto s row (suc y) = frameRow s y
+-- "P6", newline, "256 224", newline, "255", newline
+abbrev pub plateHeader : List ℕ
+plateHeader = 80 ∷ 54 ∷ 10 ∷ 50 ∷ 53 ∷ 54 ∷ 32 ∷ 50 ∷ 50 ∷ 52 ∷ 10 ∷ 50 ∷ 53 ∷ 53 ∷ 10 ∷ []
 
--- the number of a refusal that a scene can have whose targets have their lengths
-abbrev pub ofScene : ℕ → Bool
-ofScene n = eqb n 6 || eqb n 8 || eqb n 9 || eqb n 10 || eqb n 11
+-- the first n rows, one after another
+unfoldable pub rowsOf : Scene → ℕ → List ℕ
+rowsOf s zero = []
+rowsOf s (suc y) = rowsOf s y ++ frameRow s y
 
-abbrev pub SaidOfScene : Answer Unit → Type 0
-SaidOfScene (value _) = Unit
-SaidOfScene (refused n) = ofScene n ≡ true
+-- the plate: the header, and the picture's bytes
+unfoldable pub plateOf : Scene → List ℕ
+plateOf s = plateHeader ++ rowsOf s 224
+
+-- these bytes are the plate's from byte `at` on
+pub record Part (s : Scene) (at : ℕ) (bytes : List ℕ) : Type 0 where
+  pub is : bytes ≡ take (length bytes) (drop at (plateOf s))
+  pub within : at + length bytes ≤ 172047
+
+-- k bytes that are handed on from byte `at` on bring the plate to n: behind them, or no further
+abbrev pub Come : ℕ → ℕ → ℕ → Type 0
+Come at k n = (n ≡ at + k) ⊎ (n ≡ at)
+
+-- the plate has come to byte `at`: after its header and so many rows, of which the lent row holds the next, or the last
+pub record Reached (s : Scene) (row : List ℕ) (at : ℕ) : Type 0 where
+  pub rows : ℕ
+  pub within : rows ≤ 224
+  pub come : at ≡ 15 + rows * 768
+  pub holds : row ≡ frameRow s (min rows 223)
+
+-- what was taken of a plate: nothing, or its header and so many rows
+abbrev pub Shown : Scene → ℕ → Type 0
+Shown s n = (n ≡ 0) ⊎ ((row : List ℕ) × Reached s row n)

@@ -1,49 +1,80 @@
-// The frame program: a scene comes in on standard input, section by section, and its picture goes out
-// row by row. It is a library so that programs with another input can run it too.
+// The frame program: a scene comes in section by section, and its plate goes out row by row. It is a
+// library so that programs with another input can run it too.
 pub mod inner;
 
-use inner::draw;
-use inner::input;
+use inner::hand;
+use inner::hand_line;
+use inner::header;
+use inner::walk;
+use ports::Way;
+use ports::inner::moved;
+use refusal::Refusal;
 use refusal::Verdict;
-use say::refuse;
-use scene::inner::values_tested;
+use say::inner::refusal_line;
 use scene_bytes::inner::registers;
+use scene_input::inner::input;
 ghost use mathlib.Core.Path.{_≡_};
 ghost use lib.ListN.{length};
+ghost use Rattle.refusal.specs.Answer.{refused};
+ghost use Rattle.refusal.specs.Numbers.{numberOf};
 ghost use Rattle.refusal.specs.Verdicts.{verdictMeans};
-ghost use Rattle.plate.specs.Frame.{SaidOfScene};
+ghost use Rattle.refusal.specs.declared.Verdict.the-variants.{Fine};
+ghost use Rattle.registers.specs.Scene.{scene};
+ghost use Rattle.scene_bytes.specs.Bytes.{registersOf};
+ghost use Rattle.scene.specs.File.{sceneTests};
+ghost use Rattle.scene_input.specs.Input.{ReadAs, SceneRead};
+ghost use Rattle.plate.specs.Frame.{Shown};
 
-// Writes the picture of a scene.
-fn show(vram: &[u16], cgram: &[u16], oam: &[u8], body: &[u8])
+// The bytes of a plate: its header and 224 rows of 768.
+const PLATE_BYTES: usize = 172047;
+
+// Hands on the plate of a scene that was read and accepted, and says how much of it was taken.
+fn show(vram: &[u16], cgram: &[u16], oam: &[u8], body: &[u8]) -> usize
     requires { ⌜ (length (now cgram) ≡ 256) × ((length (now oam) ≡ 544) × (length (now body) ≡ 48)) ⌝ }
+    requires { ⌜ SceneRead (now body) (now oam) (now cgram) (now vram) Fine ⌝ }
+    ensures { λ n. ⌜ Shown (scene (registersOf (now (body .entry))) (now (vram .entry)) (now (cgram .entry)) (now (oam .entry))) n ⌝ }
 {
     let r = registers(body);
+    let mut first = header();
     let mut row = [0u8; 768];
-    if io::write_all(1, b"P6\n256 224\n255\n") {
-        if draw(&mut row, vram, cgram, oam, r) {
-            return;
-        }
+    let at = hand(&mut first, vram, cgram, oam, r, 0);
+    if at == 0 {
+        return 0;
     }
-    io::write_all(2, b"the plate could not be written\n");
+    walk(&mut row, vram, cgram, oam, r, at)
 }
 
-// Reads a scene from standard input and writes its picture, or the number of its refusal, to standard
-// output.
+// Says that a plate was not taken whole.
+fn complain(taken: usize) {
+    if taken < PLATE_BYTES {
+        let mut text = *b"the plate could not be written\n";
+        moved(Way::Trouble, &mut text);
+    }
+}
+
+// Hands on the line of a refusal, and the refusal.
+fn refuse(n: Refusal) -> Verdict
+    ensures { λ v. ⌜ verdictMeans v ≡ refused (numberOf n) ⌝ }
+{
+    let line = refusal_line(n);
+    let mut text = line.text;
+    let size = line.size;
+    hand_line(&mut text[..size], n)
+}
+
+// Reads a scene and hands on its plate, or the number of its refusal.
 pub fn frame() -> Verdict
-    ensures { λ v. ⌜ SaidOfScene (verdictMeans v) ⌝ }
+    ensures { λ v. ⌜ ReadAs sceneTests (λ bytes. Unit) v ⌝ }
 {
     let mut vram = [0u16; 32768];
     let mut cgram = [0u16; 256];
     let mut oam = [0u8; 544];
     let mut body = [0u8; 48];
     match input(&mut body, &mut oam, &mut cgram, &mut vram) {
-        Verdict::Fine => match values_tested(body[46], body[47]) {
-            Verdict::Fine => {
-                show(&vram, &cgram, &oam, &body);
-                Verdict::Fine
-            }
-            Verdict::Refused(n) => refuse(n),
-        },
+        Verdict::Fine => {
+            complain(show(&vram, &cgram, &oam, &body));
+            Verdict::Fine
+        }
         Verdict::Refused(n) => refuse(n),
     }
 }

@@ -19,6 +19,10 @@ countTests n count = provided (leb 4 (length count)) 9 (provided (eqb (countAt c
 unfoldable pub bodyTests : ℕ → ℕ → Answer Unit
 bodyTests n got = provided (leb n got) 9 (value tt)
 
+-- of the values in the registers' section, by its bytes: the counter's is the last but one, the field's the last
+abbrev pub valuesIn : List ℕ → Answer Unit
+valuesIn body = valueTests (getD body 46 0) (getD body 47 0)
+
 -- what the tests have left of a scene file, from the end back
 module _ (bytes : List ℕ) where
   abbrev pub fromEnd : Answer Unit
@@ -46,7 +50,7 @@ fits j n l h = by-cases (leb (j + n) (length l)) refl
         lt-leb n (length (take n (drop j l))) (omega (arith, length-take n (drop j l), length-drop j l)) ∙ sym e
 
 -- a section's two tests after one another are its three
-chained : (a b c : Bool) → _≡_ {A = Answer Unit}
+pub chained : (a b c : Bool) → _≡_ {A = Answer Unit}
     (provided a 9 (provided b 8 (value tt)) andThen provided c 9 (value tt)) (provided a 9 (provided b 8 (provided c 9 (value tt))))
 chained true true c = refl
 chained true false c = refl
@@ -59,7 +63,7 @@ any-more (b ∷ l) = ne-eqb (length (take 1 (b ∷ l))) 0 (λ e. omega arith) �
 
 module _ (bytes : List ℕ) where
   -- byte i of the piece of n bytes from byte k on
-  in-piece : (k n i j : ℕ) → i < n → k + i ≡ j → getD (take n (drop k bytes)) i 0 ≡ getD bytes j 0
+  pub in-piece : (k n i j : ℕ) → i < n → k + i ≡ j → getD (take n (drop k bytes)) i 0 ≡ getD bytes j 0
   in-piece k n i j h e = getD-take n (drop k bytes) i 0 h ∙ getD-drop k bytes i 0 ∙ ap (λ (m : ℕ). getD bytes m 0) e
 
   -- the count's piece
@@ -89,7 +93,7 @@ module _ (bytes : List ℕ) where
       andThen pieceTests 600 512
       andThen pieceTests 1116 65536
       andThen endTests (length (take 1 (drop 66656 bytes)))
-      andThen valueTests (getD (take 48 (drop 4 bytes)) 46 0) (getD (take 48 (drop 4 bytes)) 47 0))
+      andThen valuesIn (take 48 (drop 4 bytes)))
       ≡ sceneTests bytes
   unfolding sceneTests endTests
   by-pieces = λ i.

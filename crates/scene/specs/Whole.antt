@@ -15,19 +15,19 @@ no-pass : {n : ℕ} → _≡_ {A = Answer Unit} (refused n) (value tt) → ⊥
 no-pass e = let z : _≡_ {A = ℕ} 0 1 = cc in omega arith
 
 -- where tests after one another pass, each does
-first-passes : (a b : Answer Unit) → (a andThen b) ≡ value tt → a ≡ value tt
+pub first-passes : (a b : Answer Unit) → (a andThen b) ≡ value tt → a ≡ value tt
 first-passes (value tt) b e = refl
 first-passes (refused n) b e = absurd (no-pass e)
 
-then-passes : (a b : Answer Unit) → (a andThen b) ≡ value tt → b ≡ value tt
+pub then-passes : (a b : Answer Unit) → (a andThen b) ≡ value tt → b ≡ value tt
 then-passes (value tt) b e = e
 then-passes (refused n) b e = absurd (no-pass e)
 
-held : (t : Bool) (n : ℕ) (a : Answer Unit) → provided t n a ≡ value tt → t ≡ true
+pub held : (t : Bool) (n : ℕ) (a : Answer Unit) → provided t n a ≡ value tt → t ≡ true
 held true n a e = refl
 held false n a e = absurd (no-pass e)
 
-after : (t : Bool) (n : ℕ) (a : Answer Unit) → provided t n a ≡ value tt → a ≡ value tt
+pub after : (t : Bool) (n : ℕ) (a : Answer Unit) → provided t n a ≡ value tt → a ≡ value tt
 after true n a e = e
 after false n a e = absurd (no-pass e)
 

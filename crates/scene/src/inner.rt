@@ -14,7 +14,7 @@ ghost use lib.ListN.{length};
 ghost use Rattle.refusal.specs.Verdicts.{verdictMeans, Passed};
 ghost use Rattle.scene_bytes.specs.Bytes.{wordsOf};
 ghost use Rattle.scene.specs.File.{countAt, bodyAt, sectionTests, endTests, valueTests, sceneTests};
-ghost use Rattle.scene.specs.Pieces.{countTests, bodyTests, fromSprites, fromColours, fromVram, fromEnd};
+ghost use Rattle.scene.specs.Pieces.{countTests, bodyTests, valuesIn, fromSprites, fromColours, fromVram, fromEnd};
 
 // The bytes of the sections' bodies.
 pub const REGISTER_BYTES: usize = 48;
@@ -65,8 +65,8 @@ pub fn end_tested(n: usize) -> Verdict
 }
 
 // What is said of the counter's byte and of the field's.
-pub fn values_tested(counter: u8, field: u8) -> Verdict
-    ensures { λ v. ⌜ (verdictMeans v ≡ valueTests counter field) × (Passed v → counter ≤ 16) ⌝ }
+fn values(counter: u8, field: u8) -> Verdict
+    ensures { λ v. ⌜ verdictMeans v ≡ valueTests counter field ⌝ }
 {
     if counter > LARGEST_COUNTER {
         return Verdict::Refused(Refusal::Counter);
@@ -75,6 +75,14 @@ pub fn values_tested(counter: u8, field: u8) -> Verdict
         return Verdict::Refused(Refusal::FieldByte);
     }
     Verdict::Fine
+}
+
+// What is said of the values in the registers' section.
+pub fn values_tested(body: &[u8]) -> Verdict
+    requires { ⌜ length (now body) ≡ 48 ⌝ }
+    ensures { λ v. ⌜ verdictMeans v ≡ valuesIn (now (body .entry)) ⌝ }
+{
+    values(body[46], body[47])
 }
 
 // The tests of a section of n bytes whose count begins at byte k.
@@ -100,7 +108,7 @@ fn from_end(scene: &[u8]) -> Verdict
     ensures { λ v. ⌜ verdictMeans v ≡ fromEnd (now (scene .entry)) ⌝ }
 {
     match end_tested(scene.len() - SCENE_BYTES) {
-        Verdict::Fine => values_tested(scene[50], scene[51]),
+        Verdict::Fine => values(scene[50], scene[51]),
         Verdict::Refused(n) => Verdict::Refused(n),
     }
 }

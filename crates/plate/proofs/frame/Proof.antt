@@ -1,13 +1,19 @@
-use Rattle.plate.proofs.Said.{said-as, said-refused, said-values}
+use Rattle.plate.proofs.Read.{read-fine, read-told}
+use mathlib.Core.Path.{sym, ap, _∙_}
+use Rattle.refusal.specs.Verdicts.{verdictMeans}
 use borrow.Author.Needs.{needs}
 use Rattle.plate.proofs.frame.Statement.{statement}
 use Rattle.plate.proofs.frame.Tie as tie
 
-returns-2 : tie.Need-returns-2
-returns-2 c = let n = c .before .before in said-as (c .refuse .ensures) (said-refused (n .n .given .1) (said-values _ _ (n .before .before .values-tested .ensures .0)))
+show-requires : tie.Need-show-requires
+show-requires c κs =
+    let told = c .before .before .before .before in (search needs, read-fine (told .before .before .before .before .before .before .input .ensures) (told .enum-told .given .1))
 
-returns-3 : tie.Need-returns-3
-returns-3 c = let n = c .before .before in said-as (c .refuse2 .ensures) (said-refused (n .n2 .given .1) (n .before .before .before .before .before .before .input .ensures))
+returns : tie.Need-returns
+returns c = let told = c .before .before .before .before .before .before in read-told (told .before .before .before .before .before .before .input .ensures) (ap verdictMeans (sym (told .enum-told .given .1)))
+
+returns-2 : tie.Need-returns-2
+returns-2 c = let n = c .before .before in read-told (n .before .before .before .before .before .before .input .ensures) (c .refuse .ensures ∙ ap verdictMeans (sym (n .n .given .1)))
 
 pub frame-spec : {M : Type 1} → statement M
 frame-spec =
@@ -21,17 +27,11 @@ frame-spec =
     (λ c. search needs)
     (λ c. search needs)
     (λ c. search needs)
-    (λ c κs. search needs)
     (λ c. search needs)
     (λ c. search needs)
-    (λ c. search needs)
-    (λ c. search needs)
-    (λ c. search needs)
+    show-requires
     (λ c κs. search needs)
     (λ c. search needs)
     (λ c κs. search needs)
-    (λ c. search needs)
-    (λ c κs. search needs)
-    (λ c. search needs)
-    returns-2
-    returns-3)
+    returns
+    returns-2)

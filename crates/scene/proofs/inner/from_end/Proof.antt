@@ -8,7 +8,7 @@ use Rattle.scene.proofs.inner.from_end.Statement.{statement}
 use Rattle.scene.proofs.inner.from_end.Tie as tie
 
 returns : tie.Need-returns
-returns c = let e = c .before .before .before in let t = e .before .before in c .values-tested .ensures .0 ∙ by-verdict _ (t .end-tested .ensures ∙ ap endTests (sym (length-drop 66656 (now (t .before .before .args .scene))))) (e .enum-told .given .1)
+returns c = let e = c .before .before .before in let t = e .before .before in c .values .ensures ∙ by-verdict _ (t .end-tested .ensures ∙ ap endTests (sym (length-drop 66656 (now (t .before .before .args .scene))))) (e .enum-told .given .1)
 
 returns-2 : tie.Need-returns-2
 returns-2 c = let n = c .before in by-verdict _ (n .before .before .end-tested .ensures ∙ ap endTests (sym (length-drop 66656 (now (n .before .before .before .before .args .scene))))) (n .n .given .1)

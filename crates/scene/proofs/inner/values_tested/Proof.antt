@@ -1,19 +1,8 @@
-use Rattle.scene.specs.File.{valueTests}
-use borrow.Author.Tests.{le-leb, lt-leb}
+use borrow.Author.Needs.{needs}
 use Rattle.scene.proofs.inner.values_tested.Statement.{statement}
 use Rattle.scene.proofs.inner.values_tested.Tie as tie
 
-returns : tie.Need-returns
-unfolding valueTests
-returns c = (simp (lt-leb _ _ (c .if1 .taken)), λ e. absurd e)
-
-returns-2 : tie.Need-returns-2
-unfolding valueTests
-returns-2 c = (simp (le-leb _ _ (c .before .if1 .left), lt-leb _ _ (c .if2 .taken)), λ e. absurd e)
-
-returns-3 : tie.Need-returns-3
-unfolding valueTests
-returns-3 c = (simp (le-leb _ _ (c .before .if1 .left), le-leb _ _ (c .if2 .left)), λ e. c .before .if1 .left)
-
 pub values-tested-spec : {M : Type 1} → statement M
-values-tested-spec = tie.close (tie.spec returns returns-2 returns-3)
+values-tested-spec =
+    tie.close
+    (tie.spec (λ c. search needs) (λ c. search needs) (λ c κs. search needs) (λ c. search needs))

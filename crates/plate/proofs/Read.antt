@@ -1,0 +1,19 @@
+-- What is said of the bytes that were read, said on.
+use Prim.Native.Nat.{ℕ}
+use mathlib.Core.Path.{_≡_, sym, ap, _∙_}
+use mathlib.Core.List.{List}
+use Rattle.refusal.specs.Answer.{Answer}
+use Rattle.refusal.specs.Verdicts.{verdictMeans, passed}
+use Rattle.refusal.specs.declared.Verdict.{Verdict}
+use Rattle.refusal.specs.declared.Verdict.the-variants.{Fine}
+use Rattle.scene_input.specs.Input.{ReadAs}
+
+-- what was read passed
+pub read-fine : {tests : List ℕ → Answer Unit} {held : List ℕ → Type 0} {v : Verdict} → ReadAs tests held v → v ≡ Fine →
+    ReadAs tests held Fine
+read-fine r e = record { bytes = r .bytes; said = sym (ap verdictMeans e) ∙ r .said; holds = λ p. r .holds (passed e) }
+
+-- what is said of the bytes that were read is said on
+pub read-told : {tests : List ℕ → Answer Unit} {held : List ℕ → Type 0} {v w : Verdict} → ReadAs tests held v →
+    verdictMeans w ≡ verdictMeans v → ReadAs tests (λ bytes. Unit) w
+read-told r e = record { bytes = r .bytes; said = e ∙ r .said; holds = λ p. tt }

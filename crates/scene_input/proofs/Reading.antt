@@ -1,0 +1,257 @@
+-- The bytes that were read, one after another: what the tests of the pieces say of them all.
+use Prim.Native.Nat.{ℕ, _+_, _*_, _≤_, _<_}
+use mathlib.Core.Path.{_≡_, refl, sym, ap, subst, _∙_}
+use mathlib.Core.Bool.{Bool, true, false}
+use mathlib.Core.List.{List, _++_}
+use native.Mathlib.Omega.{arith}
+use lib.ListN.{length, getD, take, drop, length-append, length-take, length-drop, List·getD-append}
+use lib.Seq.{take-all, take-at, drop-at, drop-append-le, drop-drop, getD-drop}
+use lib.Dec.{eqb, leb}
+use borrow.Author.Tests.{leb-true, leb-false, le-leb, lt-leb}
+use Rattle.refusal.specs.Answer.{Answer, value, refused, provided, _andThen_}
+use Rattle.refusal.specs.Numbers.{numberOf}
+use Rattle.refusal.specs.Verdicts.{verdictMeans, Passed, passed}
+use Rattle.refusal.specs.declared.Refusal.{Refusal}
+use Rattle.refusal.specs.declared.Verdict.{Verdict}
+use Rattle.refusal.specs.declared.Verdict.the-variants.{Fine, Refused}
+use Rattle.scene.specs.File.{countAt, sectionTests, endTests, valueTests, sceneTests}
+use Rattle.scene_bytes.specs.Bytes.{registersOf, wordsOf}
+use Rattle.scene.specs.Pieces.{countTests, bodyTests, valuesIn, chained, in-piece}
+use Rattle.scene.specs.Whole.{held, after}
+use Rattle.scene_input.specs.Input.{ReadAs, SceneRead, SectionRead, sectionOf, sectionThen, heldThen, fromRegisters, HeldRegisters}
+
+-- the same on both sides of a comparison
+shifted : (k n m : ℕ) → leb (k + n) (k + m) ≡ leb n m
+shifted k n m = by-cases (leb n m) refl
+  where
+    by-cases : (t : Bool) → leb n m ≡ t → leb (k + n) (k + m) ≡ leb n m
+    by-cases true e = let b = leb-true n m e in le-leb (k + n) (k + m) (omega arith) ∙ sym e
+    by-cases false e = let b = leb-false n m e in lt-leb (k + n) (k + m) (omega arith) ∙ sym e
+
+module _ (n : ℕ) where
+  -- what follows a count does not change it
+  count-before : (b rest : List ℕ) → 4 ≤ length b → countAt (b ++ rest) 0 ≡ countAt b 0
+  count-before b rest h = λ i. at 0 (omega arith) i + at 1 (omega arith) i * 256 + (at 2 (omega arith) i + at 3 (omega arith) i * 256) * 65536
+    where
+      at : (j : ℕ) → j < length b → getD (b ++ rest) j 0 ≡ getD b j 0
+      at j l = List·getD-append b rest 0 j l
+
+  -- a section whose count is whole and right is tested by its length alone
+  counted : (b : List ℕ) → leb 4 (length b) ≡ true → eqb (countAt b 0) n ≡ true →
+      sectionOf n b ≡ provided (leb (4 + n) (length b)) 9 (value tt)
+  counted b l e = λ i. provided (l i) 9 (provided (e i) 8 (provided (leb (4 + n) (length b)) 9 (value tt)))
+
+  -- a count, and the body that came
+  pub section-of : (c b : List ℕ) → length c ≡ 4 → countTests n c ≡ value tt → bodyTests n (length b) ≡ sectionOf n (c ++ b)
+  unfolding countTests bodyTests
+  section-of c b l e =
+      let long : length (c ++ b) ≡ 4 + length b = length-append c b ∙ ap (λ (k : ℕ). k + length b) l in
+      let right : eqb (countAt c 0) n ≡ true = held (eqb (countAt c 0) n) 8 (value tt) (after (leb 4 (length c)) 9 (provided (eqb (countAt c 0) n) 8 (value tt)) e) in
+      sym
+      (counted (c ++ b) (le-leb 4 (length (c ++ b)) (omega arith)) (ap (λ (k : ℕ). eqb k n) (count-before c b (omega arith)) ∙ right)
+      ∙ ap (λ (t : Bool). provided t 9 (value tt)) (ap (leb (4 + n)) long ∙ shifted 4 n (length b)))
+
+  -- a count that is refused
+  pub section-stopped : (c : List ℕ) {r : ℕ} → countTests n c ≡ refused r → sectionOf n c ≡ refused r
+  unfolding countTests
+  section-stopped c e =
+      sym (chained (leb 4 (length c)) (eqb (countAt c 0) n) (leb (4 + n) (length c)))
+      ∙ ap (λ (a : Answer Unit). a andThen provided (leb (4 + n) (length c)) 9 (value tt)) e
+
+  -- what follows a section that passes does not change it
+  section-before : (b rest : List ℕ) → length b ≡ 4 + n → sectionOf n b ≡ value tt → sectionOf n (b ++ rest) ≡ value tt
+  section-before b rest l e =
+      let long : length (b ++ rest) ≡ 4 + n + length rest = length-append b rest ∙ ap (λ (k : ℕ). k + length rest) l in
+      let body = provided (leb (4 + n) (length b)) 9 (value tt) in
+      let right = held (eqb (countAt b 0) n) 8 body (after (leb 4 (length b)) 9 (provided (eqb (countAt b 0) n) 8 body) e) in
+      counted (b ++ rest) (le-leb 4 (length (b ++ rest)) (omega arith)) (ap (λ (k : ℕ). eqb k n) (count-before b rest (omega arith)) ∙ right)
+      ∙ ap (λ (t : Bool). provided t 9 (value tt)) (le-leb (4 + n) (length (b ++ rest)) (omega arith))
+
+said-fine : (w : Verdict) → Passed w → verdictMeans w ≡ value tt
+said-fine Fine p = refl
+said-fine (Refused r) p = absurd p
+
+-- A section, read as a count and then a body.
+module _ (n : ℕ) {v : Verdict} (c : List ℕ) (counted-as : verdictMeans v ≡ countTests n c) where
+  -- its count is refused, and nothing more is read
+  pub read-count : {P : List ℕ → Type 0} {r : Refusal} → v ≡ Refused r → SectionRead n P (Refused r)
+  read-count e = record {
+    bytes = c;
+    said = sym (section-stopped n c (sym counted-as ∙ ap verdictMeans e));
+    long = λ p. absurd p;
+    holds = λ p. absurd p;
+  }
+
+  -- its count passes: then the body is read, as far as there is any
+  pub read-body : (body : List ℕ) (got : ℕ) {w : Verdict} → v ≡ Fine → length c ≤ 4 → length body ≡ n → got ≤ n →
+      verdictMeans w ≡ bodyTests n got → SectionRead n (λ l. l ≡ body) w
+  unfolding countTests bodyTests
+  read-body body got {w} e short long most said = record {
+    bytes = c ++ take got body;
+    said = said ∙ (ap (bodyTests n) (sym came) ∙ section-of n c (take got body) four passes);
+    long = λ p. length-append c (take got body) ∙ (λ i. four i + (ap length (whole p) ∙ long) i);
+    holds = λ p. drop-at c (take got body) 4 four ∙ whole p;
+  }
+    where
+      passes : countTests n c ≡ value tt
+      passes = sym counted-as ∙ ap verdictMeans e
+
+      four : length c ≡ 4
+      four =
+          let t = leb-true 4 (length c) (held (leb 4 (length c)) 9 (provided (eqb (countAt c 0) n) 8 (value tt)) passes) in
+          omega arith
+
+      came : length (take got body) ≡ got
+      came = length-take got body ∙ omega arith
+
+      whole : Passed w → take got body ≡ body
+      whole p =
+          let enough = leb-true n got (held (leb n got) 9 (value tt) (sym said ∙ said-fine w p)) in
+          take-all got body (omega arith)
+
+-- Sections after one another.
+module _ {n : ℕ} {P : List ℕ → Type 0} {v : Verdict} (s : SectionRead n P v) (T : List ℕ → Answer Unit) where
+  -- the first is refused, and nothing more is read
+  pub read-stopped : {Q : List ℕ → Type 0} {r : Refusal} → v ≡ Refused r → ReadAs (sectionThen n T) Q (Refused r)
+  read-stopped e = record {
+    bytes = s .bytes;
+    said = sym (ap (λ (a : Answer Unit). a andThen T (drop (4 + n) (s .bytes))) (sym (s .said) ∙ ap verdictMeans e));
+    holds = λ p. absurd p;
+  }
+
+  -- the first passes, and the others are read
+  pub read-then : {Q : List ℕ → Type 0} {w : Verdict} → v ≡ Fine → ReadAs T Q w → ReadAs (sectionThen n T) (heldThen n P Q) w
+  read-then {Q} e r =
+      let b = s .bytes in
+      let l = s .long (passed e) in
+      let rest : drop (4 + n) (b ++ r .bytes) ≡ r .bytes = drop-at b (r .bytes) (4 + n) l in
+      let front = drop-append-le 4 b (r .bytes) (omega arith) in
+      let body : take n (drop 4 (b ++ r .bytes)) ≡ drop 4 b = ap (take n) front ∙ take-at (drop 4 b) (r .bytes) n (length-drop 4 b ∙ omega arith) in
+      let first = section-before n b (r .bytes) l (sym (s .said) ∙ ap verdictMeans e) in
+      record {
+        bytes = b ++ r .bytes;
+        said = r .said ∙ sym (λ i. first i andThen T (rest i));
+        holds = λ p. (subst P (sym body) (s .holds (passed e)), subst Q (sym rest) (r .holds p));
+      }
+
+-- What is made of a section's body.
+module _ {n : ℕ} {P Q : List ℕ → Type 0} {v : Verdict} (s : SectionRead n P v) where
+  pub read-as : v ≡ Fine → ((l : List ℕ) → P l → Q l) → SectionRead n Q Fine
+  read-as e f = record {
+    bytes = s .bytes;
+    said = sym (ap verdictMeans e) ∙ s .said;
+    long = λ p. s .long (passed e);
+    holds = λ p. f (drop 4 (s .bytes)) (s .holds (passed e));
+  }
+
+  pub read-refused : {r : Refusal} → v ≡ Refused r → SectionRead n Q (Refused r)
+  read-refused e = record {
+    bytes = s .bytes;
+    said = sym (ap verdictMeans e) ∙ s .said;
+    long = λ p. absurd p;
+    holds = λ p. absurd p;
+  }
+
+-- tests after one another, and then one more
+then-more : (a b c : Answer Unit) → (a andThen b) andThen c ≡ a andThen (b andThen c)
+then-more (value u) b c = refl
+then-more (refused n) b c = refl
+
+-- a section from byte k on
+module _ (b : List ℕ) (k : ℕ) where
+  -- a part from byte k on reaches as far as the whole
+  reaches : (n : ℕ) → 0 < n → leb n (length (drop k b)) ≡ leb (k + n) (length b)
+  reaches n h = by-cases (leb (k + n) (length b)) refl
+    where
+      by-cases : (t : Bool) → leb (k + n) (length b) ≡ t → leb n (length (drop k b)) ≡ leb (k + n) (length b)
+      by-cases true e =
+          let l = leb-true (k + n) (length b) e in le-leb n (length (drop k b)) (omega (arith, length-drop k b)) ∙ sym e
+      by-cases false e =
+          let l = leb-false (k + n) (length b) e in lt-leb n (length (drop k b)) (omega (arith, length-drop k b)) ∙ sym e
+
+  byte-at : (i j : ℕ) → k + i ≡ j → getD (drop k b) i 0 ≡ getD b j 0
+  byte-at i j e = getD-drop k b i 0 ∙ ap (λ (m : ℕ). getD b m 0) e
+
+  count-from : countAt (drop k b) 0 ≡ countAt b k
+  count-from = λ i.
+      byte-at 0 k (omega arith) i
+      + byte-at 1 (k + 1) (omega arith) i * 256
+      + (byte-at 2 (k + 2) (omega arith) i + byte-at 3 (k + 2 + 1) (omega arith) i * 256) * 65536
+
+  section-from : (n : ℕ) → sectionOf n (drop k b) ≡ sectionTests b k n
+  section-from n = λ i.
+      provided (reaches 4 (omega arith) i) 9
+      (provided (eqb (count-from i) n) 8
+      (provided ((reaches (4 + n) (omega arith) ∙ ap (λ (m : ℕ). leb m (length b)) whole) i) 9 (value tt)))
+    where
+      whole : k + (4 + n) ≡ k + 4 + n
+      whole = omega arith
+
+-- A scene, read as its sections: they are where the file has them.
+module _ (b : List ℕ) where
+  at-600 : drop 548 (drop 52 b) ≡ drop 600 b
+  at-600 = drop-drop 548 52 b
+
+  at-1116 : drop 516 (drop 548 (drop 52 b)) ≡ drop 1116 b
+  at-1116 = ap (drop 516) at-600 ∙ drop-drop 516 600 b
+
+  at-end : drop 65540 (drop 516 (drop 548 (drop 52 b))) ≡ drop 66656 b
+  at-end = ap (drop 65540) at-1116 ∙ drop-drop 65540 1116 b
+
+  -- their tests and the values' are the file's
+  scene-tests : fromRegisters b andThen valuesIn (take 48 (drop 4 b)) ≡ sceneTests b
+  unfolding sceneTests
+  scene-tests =
+      let s1 = sectionTests b 0 48 in
+      let s2 = sectionTests b 52 544 in
+      let s3 = sectionTests b 600 512 in
+      let s4 = sectionTests b 1116 65536 in
+      let end = endTests (length (drop 66656 b)) in
+      let v = valueTests (getD b 50 0) (getD b 51 0) in
+      (λ i.
+      (s1
+      andThen section-from b 52 544 i
+      andThen (ap (sectionOf 512) at-600 ∙ section-from b 600 512) i
+      andThen (ap (sectionOf 65536) at-1116 ∙ section-from b 1116 65536) i
+      andThen endTests (length (at-end i)))
+      andThen valueTests (in-piece b 4 48 46 50 (omega arith) refl i) (in-piece b 4 48 47 51 (omega arith) refl i))
+      ∙ (then-more s1 (s2 andThen s3 andThen s4 andThen end) v
+      ∙ ap (λ (a : Answer Unit). s1 andThen a)
+      (then-more s2 (s3 andThen s4 andThen end) v
+      ∙ ap (λ (a : Answer Unit). s2 andThen a)
+      (then-more s3 (s4 andThen end) v ∙ ap (λ (a : Answer Unit). s3 andThen a) (then-more s4 end v))))
+
+module _ {registers oam cgram vram : List ℕ} {v : Verdict} (s : ReadAs fromRegisters (HeldRegisters registers oam cgram vram) v) where
+  -- the sections are refused
+  pub read-no-scene : {r : Refusal} → v ≡ Refused r → SceneRead registers oam cgram vram (Refused r)
+  read-no-scene e =
+      let b = s .bytes in
+      record {
+        bytes = b;
+        said =
+            sym
+            (sym (scene-tests b)
+            ∙ ap (λ (a : Answer Unit). a andThen valuesIn (take 48 (drop 4 b))) (sym (s .said) ∙ ap verdictMeans e));
+        holds = λ p. absurd p;
+      }
+
+  -- the sections pass, and then the values are tested
+  pub read-scene : {w : Verdict} → v ≡ Fine → verdictMeans w ≡ valuesIn registers → SceneRead registers oam cgram vram w
+  read-scene e m =
+      let b = s .bytes in
+      let h = s .holds (passed e) in
+      record {
+        bytes = b;
+        said =
+            m
+            ∙ (ap valuesIn (sym (h .0))
+            ∙ sym
+            (sym (scene-tests b)
+            ∙ ap (λ (a : Answer Unit). a andThen valuesIn (take 48 (drop 4 b))) (sym (s .said) ∙ ap verdictMeans e)));
+        holds = λ p i. record {
+          regs = registersOf (sym (h .0) i);
+          vram = (h .1 .1 .1 .0 ∙ ap (λ (l : List ℕ). wordsOf 32768 (take 65536 l)) (ap (drop 4) (at-1116 b) ∙ drop-drop 4 1116 b)) i;
+          cgram = (h .1 .1 .0 ∙ ap (λ (l : List ℕ). wordsOf 256 (take 512 l)) (ap (drop 4) (at-600 b) ∙ drop-drop 4 600 b)) i;
+          oam = (sym (h .1 .0) ∙ ap (take 544) (drop-drop 4 52 b)) i;
+        };
+      }

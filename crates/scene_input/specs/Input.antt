@@ -1,0 +1,69 @@
+-- What is read of a scene, section by section. No contract says which bytes a read brings; so what is said here is said of some
+-- bytes, those that the reads brought, one after another.
+use Prim.Native.Nat.{ℕ, _+_}
+use mathlib.Core.Path.{_≡_}
+use mathlib.Core.List.{List}
+use lib.ListN.{length, take, drop}
+use Rattle.refusal.specs.Answer.{Answer, _andThen_}
+use Rattle.refusal.specs.Verdicts.{verdictMeans, Passed}
+use Rattle.refusal.specs.declared.Verdict.{Verdict}
+use Rattle.registers.specs.Scene.{scene}
+use Rattle.scene_bytes.specs.Bytes.{registersOf, wordsOf}
+use Rattle.scene.specs.File.{sectionTests, endTests, sceneTests, sceneOf}
+
+-- of some bytes the verdict is what the tests say, and where it passes they are held
+pub record ReadAs (tests : List ℕ → Answer Unit) (held : List ℕ → Type 0) (v : Verdict) : Type 0 where
+  pub bytes : List ℕ
+  pub said : verdictMeans v ≡ tests bytes
+  pub holds : Passed v → held bytes
+
+-- a scene: the verdict is the file reader's, and where it passes the memories hold what the file reader leaves
+abbrev pub SceneRead : List ℕ → List ℕ → List ℕ → List ℕ → Verdict → Type 0
+SceneRead registers oam cgram vram v =
+    ReadAs sceneTests (λ bytes. scene (registersOf registers) vram cgram oam ≡ sceneOf bytes) v
+
+-- on the way: a section of n bytes from the first byte on, of whose body P holds
+abbrev pub sectionOf : ℕ → List ℕ → Answer Unit
+sectionOf n bytes = sectionTests bytes 0 n
+
+pub record SectionRead (n : ℕ) (P : List ℕ → Type 0) (v : Verdict) : Type 0 where
+  pub bytes : List ℕ
+  pub said : verdictMeans v ≡ sectionOf n bytes
+  pub long : Passed v → length bytes ≡ 4 + n
+  pub holds : Passed v → P (drop 4 bytes)
+
+-- a section of n bytes, and then others
+abbrev pub sectionThen : ℕ → (List ℕ → Answer Unit) → List ℕ → Answer Unit
+sectionThen n rest bytes = sectionOf n bytes andThen rest (drop (4 + n) bytes)
+
+-- of whose body P holds, and Q of the others
+abbrev pub heldThen : ℕ → (List ℕ → Type 0) → (List ℕ → Type 0) → List ℕ → Type 0
+heldThen n P Q bytes = P (take n (drop 4 bytes)) × Q (drop (4 + n) bytes)
+
+-- the tests from a section on, from the end back, and what the memories hold then
+abbrev pub fromEnd : List ℕ → Answer Unit
+fromEnd bytes = endTests (length bytes)
+
+abbrev pub fromVram : List ℕ → Answer Unit
+fromVram = sectionThen 65536 fromEnd
+
+abbrev pub HeldVram : List ℕ → List ℕ → Type 0
+HeldVram vram = heldThen 65536 (λ body. vram ≡ wordsOf 32768 body) (λ rest. Unit)
+
+abbrev pub fromColours : List ℕ → Answer Unit
+fromColours = sectionThen 512 fromVram
+
+abbrev pub HeldColours : List ℕ → List ℕ → List ℕ → Type 0
+HeldColours cgram vram = heldThen 512 (λ body. cgram ≡ wordsOf 256 body) (HeldVram vram)
+
+abbrev pub fromSprites : List ℕ → Answer Unit
+fromSprites = sectionThen 544 fromColours
+
+abbrev pub HeldSprites : List ℕ → List ℕ → List ℕ → List ℕ → Type 0
+HeldSprites oam cgram vram = heldThen 544 (λ body. body ≡ oam) (HeldColours cgram vram)
+
+abbrev pub fromRegisters : List ℕ → Answer Unit
+fromRegisters = sectionThen 48 fromSprites
+
+abbrev pub HeldRegisters : List ℕ → List ℕ → List ℕ → List ℕ → List ℕ → Type 0
+HeldRegisters registers oam cgram vram = heldThen 48 (λ body. body ≡ registers) (HeldSprites oam cgram vram)

@@ -1,0 +1,116 @@
+// Reads the sections of a scene into lent memories, each read into a lent piece, and tests each piece
+// as it comes.
+use oam::OAM_SIZE;
+use ports::Way;
+use ports::inner::moved;
+use refusal::Verdict;
+use registers::constants::COLOUR_WORDS;
+use scene::inner::REGISTER_BYTES;
+use scene::inner::body_tested;
+use scene::inner::count_tested;
+use scene::inner::end_tested;
+use scene::inner::values_tested;
+use scene_bytes::inner::words;
+use tiles::inner::VRAM_WORDS;
+ghost use mathlib.Core.Path.{_≡_};
+ghost use Prim.Native.Nat.{_*_, _≤_};
+ghost use lib.ListN.{length};
+ghost use Rattle.scene_bytes.specs.Bytes.{wordsOf};
+ghost use Rattle.scene_input.specs.Input.{ReadAs, SceneRead, SectionRead, fromEnd, fromVram, fromColours, fromSprites, fromRegisters, HeldVram, HeldColours, HeldSprites, HeldRegisters};
+
+// The bytes of a count.
+const COUNT_BYTES: usize = 4;
+
+// Reads a section of n bytes: its count into four lent bytes, its body into the others.
+fn section(count: &mut [u8], body: &mut [u8], n: usize) -> Verdict
+    requires { ⌜ (length (now count) ≡ 4) × (length (now body) ≡ n) ⌝ }
+    ensures { λ v. ⌜ SectionRead n (λ l. l ≡ now (body .exit)) v ⌝ }
+{
+    let came = moved(Way::Scene, count);
+    match count_tested(&count[..came], n) {
+        Verdict::Fine => body_tested(moved(Way::Scene, body), n),
+        Verdict::Refused(k) => Verdict::Refused(k),
+    }
+}
+
+// Reads a section of n words, by way of its bytes.
+fn word_section(out: &mut [u16], body: &mut [u8], n: usize) -> Verdict
+    requires { ⌜ (n ≤ 32768) × ((length (now out) ≡ n) × (length (now body) ≡ n * 2)) ⌝ }
+    ensures { λ v. ⌜ SectionRead (n * 2) (λ l. now (out .exit) ≡ wordsOf n l) v ⌝ }
+{
+    let mut count = [0u8; COUNT_BYTES];
+    match section(&mut count, body, n * 2) {
+        Verdict::Fine => {
+            words(out, body);
+            Verdict::Fine
+        }
+        Verdict::Refused(k) => Verdict::Refused(k),
+    }
+}
+
+// Sees that nothing follows the last section.
+fn end() -> Verdict
+    ensures { λ v. ⌜ ReadAs fromEnd (λ b. Unit) v ⌝ }
+{
+    let mut byte = [0u8; 1];
+    end_tested(moved(Way::Scene, &mut byte))
+}
+
+// Reads VRAM's section, and sees that it is the last.
+fn from_vram(vram: &mut [u16]) -> Verdict
+    requires { ⌜ length (now vram) ≡ 32768 ⌝ }
+    ensures { λ v. ⌜ ReadAs fromVram (HeldVram (now (vram .exit))) v ⌝ }
+{
+    let mut body = [0u8; 65536];
+    match word_section(vram, &mut body, VRAM_WORDS) {
+        Verdict::Fine => end(),
+        Verdict::Refused(k) => Verdict::Refused(k),
+    }
+}
+
+// Reads on from colour memory's section.
+fn from_colours(cgram: &mut [u16], vram: &mut [u16]) -> Verdict
+    requires { ⌜ (length (now cgram) ≡ 256) × (length (now vram) ≡ 32768) ⌝ }
+    ensures { λ v. ⌜ ReadAs fromColours (HeldColours (now (cgram .exit)) (now (vram .exit))) v ⌝ }
+{
+    let mut body = [0u8; 512];
+    match word_section(cgram, &mut body, COLOUR_WORDS) {
+        Verdict::Fine => from_vram(vram),
+        Verdict::Refused(k) => Verdict::Refused(k),
+    }
+}
+
+// From sprite memory's.
+fn from_sprites(oam: &mut [u8], cgram: &mut [u16], vram: &mut [u16]) -> Verdict
+    requires { ⌜ (length (now oam) ≡ 544) × ((length (now cgram) ≡ 256) × (length (now vram) ≡ 32768)) ⌝ }
+    ensures { λ v. ⌜ ReadAs fromSprites (HeldSprites (now (oam .exit)) (now (cgram .exit)) (now (vram .exit))) v ⌝ }
+{
+    let mut count = [0u8; COUNT_BYTES];
+    match section(&mut count, oam, OAM_SIZE) {
+        Verdict::Fine => from_colours(cgram, vram),
+        Verdict::Refused(k) => Verdict::Refused(k),
+    }
+}
+
+// All sections.
+fn sections(registers: &mut [u8], oam: &mut [u8], cgram: &mut [u16], vram: &mut [u16]) -> Verdict
+    requires { ⌜ (length (now registers) ≡ 48) × ((length (now oam) ≡ 544) × ((length (now cgram) ≡ 256) × (length (now vram) ≡ 32768))) ⌝ }
+    ensures { λ v. ⌜ ReadAs fromRegisters (HeldRegisters (now (registers .exit)) (now (oam .exit)) (now (cgram .exit)) (now (vram .exit))) v ⌝ }
+{
+    let mut count = [0u8; COUNT_BYTES];
+    match section(&mut count, registers, REGISTER_BYTES) {
+        Verdict::Fine => from_sprites(oam, cgram, vram),
+        Verdict::Refused(k) => Verdict::Refused(k),
+    }
+}
+
+// Reads a scene: the bytes of its registers and the three memories.
+pub fn input(registers: &mut [u8], oam: &mut [u8], cgram: &mut [u16], vram: &mut [u16]) -> Verdict
+    requires { ⌜ (length (now registers) ≡ 48) × ((length (now oam) ≡ 544) × ((length (now cgram) ≡ 256) × (length (now vram) ≡ 32768))) ⌝ }
+    ensures { λ v. ⌜ SceneRead (now (registers .exit)) (now (oam .exit)) (now (cgram .exit)) (now (vram .exit)) v ⌝ }
+{
+    match sections(registers, oam, cgram, vram) {
+        Verdict::Fine => values_tested(registers),
+        Verdict::Refused(k) => Verdict::Refused(k),
+    }
+}

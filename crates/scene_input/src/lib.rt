@@ -1,0 +1,2 @@
+// A scene that is read section by section, as the frame program does.
+pub mod inner;
