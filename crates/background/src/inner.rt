@@ -49,7 +49,7 @@ pub fn candidates(
     let px = source_column(r, p, x);
     let py = source_line(r, p, y);
     let c = pixel(vram, cgram, p, r.direct_color(), px, py);
-    laying::on_screens(c, shown(r, p), x)
+    laying::inner::on_screens(c, shown(r, p), x)
 }
 
 // Both lines after the background is laid.

@@ -1,4 +1,6 @@
-// What the public calls of this crate stand on, one screen at a time.
+// What the public calls of this crate stand on: one screen at a time, and one column.
+use crate::Candidates;
+use crate::Shown;
 use line::Candidate;
 use line::LinePixel;
 use window::Window;
@@ -7,7 +9,7 @@ ghost use mathlib.Core.Bool.{false, _&&_, not};
 ghost use lib.ListN.{getD};
 ghost use Rattle.lists.specs.Tab.{tab};
 ghost use Rattle.window.specs.Window.{masked};
-ghost use Rattle.laying.specs.Laying.{onScreen, marked, rowOf, layLine};
+ghost use Rattle.laying.specs.Laying.{onScreen, candidatesOf, marked, rowOf, layLine};
 
 // The candidate of a layer that has c, where it is shown.
 pub fn on_screen(c: Candidate, shown: bool) -> Candidate
@@ -28,7 +30,7 @@ pub fn mask(w: Window, on: bool) -> [bool; 256]
         return out;
     }
     for x in 0..256 {
-        out[x] = w.masked(x);
+        out[x] = window::inner::masked(w, x);
     }
     out
 }
@@ -80,5 +82,19 @@ pub fn lay_screen(
 pub fn masked_if(w: Window, on: bool, x: usize) -> bool
     ensures { λ r. ⌜ r ≡ on && masked w x ⌝ }
 {
-    if on { w.masked(x) } else { false }
+    if on {
+        window::inner::masked(w, x)
+    } else {
+        false
+    }
+}
+
+// The candidates at column x of a layer that has c there.
+pub fn on_screens(c: Candidate, s: Shown, x: usize) -> Candidates
+    ensures { λ r. ⌜ r ≡ candidatesOf s x c ⌝ }
+{
+    let masked = masked_if(s.window, s.win_main | s.win_sub, x);
+    let main = on_screen(c, s.to_main & !(s.win_main & masked));
+    let sub = on_screen(c, s.to_sub & !(s.win_sub & masked));
+    Candidates { main, sub }
 }

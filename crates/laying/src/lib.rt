@@ -7,7 +7,7 @@ use refusal::Refusal;
 use refusal::Verdict;
 use window::Window;
 ghost use mathlib.Core.Path.{_≡_};
-ghost use Rattle.laying.specs.Laying.{candidatesOf, rowOf, layLines};
+ghost use Rattle.laying.specs.Laying.{rowOf, layLines};
 
 // Where a layer is shown: the screens that light it (tm, ts), those that its window bars (tmw, tsw),
 // and the window.
@@ -37,16 +37,6 @@ pub struct LinesAnswer {
     pub lines: Lines,
 }
 
-// The candidates at column x of a layer that has c there.
-pub fn on_screens(c: Candidate, s: Shown, x: usize) -> Candidates
-    ensures { λ r. ⌜ r ≡ candidatesOf s x c ⌝ }
-{
-    let masked = inner::masked_if(s.window, s.win_main | s.win_sub, x);
-    let main = inner::on_screen(c, s.to_main & !(s.win_main & masked));
-    let sub = inner::on_screen(c, s.to_sub & !(s.win_sub & masked));
-    Candidates { main, sub }
-}
-
 // Both lines after a layer is laid that has `row` at its 256 columns.
 pub fn lay(lines: Lines, row: [Candidate; 256], s: Shown) -> Lines
     ensures { λ r. ⌜ r ≡ layLines s (rowOf row) lines ⌝ }
@@ -70,7 +60,7 @@ pub fn lay_few(lines: Lines, row: [Candidate; 256], s: Shown) -> Lines
         if !c.opaque {
             continue;
         }
-        let seen = on_screens(c, s, x);
+        let seen = inner::on_screens(c, s, x);
         let over = seen.main;
         let under = seen.sub;
         main[x] = line::deposit(main[x], over);

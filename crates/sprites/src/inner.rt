@@ -121,7 +121,7 @@ pub fn candidates(
     ensures { λ c. ⌜ c ≡ candidatesOf (shownOf r) x (spritePixel (now (vram .entry)) (now (cgram .entry)) (now (oam .entry)) r y x) ⌝ }
 {
     let line = line(vram, cgram, oam, r, y);
-    laying::on_screens(line[x], shown(r), x)
+    laying::inner::on_screens(line[x], shown(r), x)
 }
 
 // Both lines after the sprites are laid. Where neither screen lights them, nothing is drawn.

@@ -8,6 +8,8 @@ use registers::PPURegisters;
 use registers::constants::BACKGROUNDS;
 use registers::constants::SCREEN_WIDTH;
 use window::Window;
+use window::inner::inside;
+use window::inner::masked;
 ghost use mathlib.Core.Path.{_≡_};
 ghost use Rattle.refusal.specs.Answer.{value};
 ghost use Rattle.registers.specs.Answers.{boolMeans};
@@ -20,7 +22,7 @@ fn at_column(w: Window, x: usize) -> BoolAnswer
     ensures { λ r. ⌜ boolMeans r ≡ atColumn x (value (masked w x)) ⌝ }
 {
     if x < SCREEN_WIDTH {
-        BoolAnswer::Is(w.masked(x))
+        BoolAnswer::Is(masked(w, x))
     } else {
         BoolAnswer::Refused(Refusal::Argument)
     }
@@ -31,7 +33,7 @@ fn between(left: u8, right: u8, x: usize) -> BoolAnswer
     ensures { λ r. ⌜ boolMeans r ≡ atColumn x (value (inside left right x)) ⌝ }
 {
     if x < SCREEN_WIDTH {
-        BoolAnswer::Is(window::inside(left, right, x))
+        BoolAnswer::Is(inside(left, right, x))
     } else {
         BoolAnswer::Refused(Refusal::Argument)
     }

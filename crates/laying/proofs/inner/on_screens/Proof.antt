@@ -4,8 +4,8 @@ use Rattle.window.specs.Window.{masked}
 use mathlib.Core.Bool.{_&&_, not}
 use mathlib.Core.Path.{_∙_}
 use borrow.Author.Needs.{needs}
-use Rattle.laying.proofs.on_screens.Statement.{statement}
-use Rattle.laying.proofs.on_screens.Tie as tie
+use Rattle.laying.proofs.inner.on_screens.Statement.{statement}
+use Rattle.laying.proofs.inner.on_screens.Tie as tie
 
 returns : tie.Need-returns
 returns c =

@@ -1,6 +1,6 @@
 use Rattle.window.proofs.Xor.{xor-true, xor-false}
-use Rattle.window.proofs.exclusive.Statement.{statement}
-use Rattle.window.proofs.exclusive.Tie as tie
+use Rattle.window.proofs.inner.exclusive.Statement.{statement}
+use Rattle.window.proofs.inner.exclusive.Tie as tie
 
 returns : tie.Need-returns
 returns c = simp (c .if1 .taken, xor-true)

@@ -1,8 +1,8 @@
 use mathlib.Core.Path.{sym, _∙_}
 use Rattle.window.specs.Window.{combined}
 use borrow.Author.Needs.{needs}
-use Rattle.window.proofs.combine.Statement.{statement}
-use Rattle.window.proofs.combine.Tie as tie
+use Rattle.window.proofs.inner.combine.Statement.{statement}
+use Rattle.window.proofs.inner.combine.Tie as tie
 
 returns : tie.Need-returns
 returns c =

@@ -2,8 +2,8 @@ use mathlib.Core.Bool.{not}
 use mathlib.Core.Path.{ap}
 use borrow.Author.Tests.{ne-eqb}
 use borrow.Author.Needs.{needs}
-use Rattle.window.proofs.by_logic.Statement.{statement}
-use Rattle.window.proofs.by_logic.Tie as tie
+use Rattle.window.proofs.inner.by_logic.Statement.{statement}
+use Rattle.window.proofs.inner.by_logic.Tie as tie
 
 returns : tie.Need-returns
 returns c = rw (c .match .keys1)
