@@ -3,7 +3,6 @@
 pub mod inner;
 
 use line::Lines;
-use refusal::Refusal;
 use refusal::Verdict;
 use registers::PPURegisters;
 ghost use mathlib.Core.Path.{_≡_};
@@ -17,9 +16,12 @@ pub const ROW_BYTES: usize = 768;
 pub fn composite_line(row: &mut [u8], lines: Lines, r: PPURegisters) -> Verdict
     ensures { λ v. ⌜ record { said = verdictMeans v; left = now (row .exit) } ≡ compositeOutcome (now (row .entry)) lines r ⌝ }
 {
-    if row.len() != ROW_BYTES {
-        return Verdict::Refused(Refusal::Lent);
+    let lent = row.len() == ROW_BYTES;
+    match inner::lent_tested(lent, r.mosaic_vcounter) {
+        Verdict::Fine => {
+            inner::composite(row, lines, r);
+            Verdict::Fine
+        }
+        Verdict::Refused(n) => Verdict::Refused(n),
     }
-    inner::composite(row, lines, r);
-    Verdict::Fine
 }

@@ -1,9 +1,9 @@
 -- The layers of a scene by their numbers: BG1 to BG4 are 0 to 3, the sprites 4.
 use Prim.Native.Nat.{ℕ}
-use mathlib.Core.Bool.{Bool, true, cond, _&&_}
+use mathlib.Core.Bool.{Bool, cond, _&&_}
 use mathlib.Core.List.{List}
 use lib.ListN.{length, getD}
-use lib.Dec.{ltb, leb, eqb}
+use lib.Dec.{ltb, eqb}
 use Rattle.refusal.specs.Answer.{Answer, value, provided, _andThen_, Outcome, outcome}
 use Rattle.registers.specs.declared.PPURegisters.{PPURegisters}
 pub use Rattle.registers.specs.Scene.{Scene, scene}
@@ -50,14 +50,10 @@ module _ (s : Scene) where
   abbrev pub startLines : Lines
   startLines = backdropLines (getD (s .cgram) 0 0) (s .regs .coldata)
 
--- a counter above 16 is refused 6, another argument out of range 7
-abbrev pub countTests : ℕ → Bool → Answer Unit
-countTests counter inRange = provided (leb counter 16) 6 (provided inRange 7 (value tt))
-
--- before these a row above 223 is refused 1, VRAM of another length 2, colour memory 3, sprite memory 4
+-- a row above 223 is refused 1, VRAM of another length 2, colour memory 3, sprite memory 4, a counter above 16 6, another
+-- argument out of range 7
 abbrev pub layerTests : ℕ → ℕ → ℕ → ℕ → ℕ → Bool → Answer Unit
-layerTests y words colours bytes counter inRange =
-    sprites.rowTests y words colours bytes true andThen countTests counter inRange
+layerTests y words colours bytes counter inRange = sprites.drawTests y words colours bytes counter inRange
 
 abbrev pub testsOf : Scene → ℕ → Bool → Answer Unit
 testsOf s y inRange =

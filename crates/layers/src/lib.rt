@@ -9,47 +9,11 @@ use refusal::Refusal;
 use refusal::Verdict;
 use registers::PPURegisters;
 use registers::constants::COLOUR_WORDS;
-use registers::constants::LARGEST_COUNTER;
 use registers::constants::LAYERS;
 use registers::constants::SCREEN_WIDTH;
 ghost use mathlib.Core.Path.{_≡_};
-ghost use mathlib.Core.Bool.{true};
-ghost use Rattle.refusal.specs.Verdicts.{verdictMeans, Passed};
 ghost use Rattle.laying.specs.Answers.{candidatesMean, linesMean};
-ghost use Rattle.sprites.specs.Sprites.{Sound};
-ghost use Rattle.layers.specs.Layers.{scene, countTests, layerTests, backdropOutcome, candidatesAnswer, layerOutcome};
-
-// The last tests of both calls on a layer; `in_range` says that its number and the column are in
-// their ranges.
-fn counted(counter: u8, in_range: bool) -> Verdict
-    ensures { λ v. ⌜ (verdictMeans v ≡ countTests counter «in_range») × (Passed v → («in_range» ≡ true)) ⌝ }
-{
-    if counter > LARGEST_COUNTER {
-        return Verdict::Refused(Refusal::Counter);
-    }
-    if in_range {
-        Verdict::Fine
-    } else {
-        Verdict::Refused(Refusal::Argument)
-    }
-}
-
-// All their tests.
-fn tested(
-    y: usize,
-    words: usize,
-    colours: usize,
-    bytes: usize,
-    counter: u8,
-    in_range: bool,
-) -> Verdict
-    ensures { λ v. ⌜ (verdictMeans v ≡ layerTests y words colours bytes counter «in_range») × (Passed v → Sound colours bytes y × («in_range» ≡ true)) ⌝ }
-{
-    match sprites::inner::tested(y, words, colours, bytes, true) {
-        Verdict::Fine => counted(counter, in_range),
-        Verdict::Refused(n) => Verdict::Refused(n),
-    }
-}
+ghost use Rattle.layers.specs.Layers.{scene, backdropOutcome, candidatesAnswer, layerOutcome};
 
 // Both lines of a row before any layer is laid. On a refusal they are black.
 pub fn backdrop_lines(cgram: &[u16], r: PPURegisters) -> LinesAnswer
@@ -82,7 +46,7 @@ pub fn render_layer(
     ensures { λ a. ⌜ linesMean a ≡ layerOutcome (scene r (now (vram .entry)) (now (cgram .entry)) (now (oam .entry))) y layer lines ⌝ }
 {
     let in_range = layer < LAYERS;
-    match tested(
+    match sprites::inner::tested(
         y,
         vram.len(),
         cgram.len(),
@@ -117,7 +81,7 @@ pub fn layer_candidates(
     ensures { λ a. ⌜ candidatesMean a ≡ candidatesAnswer (scene r (now (vram .entry)) (now (cgram .entry)) (now (oam .entry))) x y layer ⌝ }
 {
     let in_range = (x < SCREEN_WIDTH) & (layer < LAYERS);
-    match tested(
+    match sprites::inner::tested(
         y,
         vram.len(),
         cgram.len(),

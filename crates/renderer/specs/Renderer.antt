@@ -4,14 +4,14 @@ use mathlib.Core.Path.{_≡_}
 use mathlib.Core.Bool.{Bool, true, false, cond}
 use mathlib.Core.List.{List, [], _∷_, _++_}
 use lib.ListN.{length, take, drop}
-use lib.Dec.{leb, eqb}
-use Rattle.refusal.specs.Answer.{Answer, value, provided, _andThen_, Outcome, outcome}
+use lib.Dec.{eqb}
+use Rattle.refusal.specs.Answer.{Answer, _andThen_, Outcome, outcome}
 use Rattle.lists.specs.Tab.{tab, length-tab}
 use Rattle.registers.specs.Screen as screen
 use Rattle.line.specs.declared.Lines.{Lines}
 use Rattle.laying.specs.Order.{layAll}
 use Rattle.sprites.specs.Sprites as sprites
-use Rattle.composite.specs.Composite.{colourAt, byteAt, blackRow, rowBytes}
+use Rattle.composite.specs.Composite.{colourAt, byteAt, blackRow, rowBytes, lentTests}
 use Rattle.layers.specs.Layers.{Scene, layerShown, layerPixel, startLines}
 
 module _ (s : Scene) where
@@ -27,13 +27,10 @@ module _ (s : Scene) where
 unfoldable pub withRow : List ℕ → ℕ → List ℕ → List ℕ
 withRow picture y row = take (y * 768) picture ++ (row ++ drop (y * 768 + 768) picture)
 
--- a lent row or picture of another length is refused 5, a counter above 16 6
-abbrev pub lentTests : Bool → ℕ → Answer Unit
-lentTests lent counter = provided lent 5 (provided (leb counter 16) 6 (value tt))
-
--- before these a row above 223 is refused 1, VRAM of another length 2, colour memory 3, sprite memory 4
+-- a row above 223 is refused 1, VRAM of another length 2, colour memory 3, sprite memory 4; then a lent row or picture of
+-- another length 5, a counter above 16 6
 abbrev pub rowTests : ℕ → ℕ → ℕ → ℕ → Bool → ℕ → Answer Unit
-rowTests y words colours bytes lent counter = sprites.rowTests y words colours bytes true andThen lentTests lent counter
+rowTests y words colours bytes lent counter = sprites.rowTests y words colours bytes andThen lentTests lent counter
 
 abbrev pub testsOf : Scene → ℕ → Bool → Answer Unit
 testsOf s y lent = rowTests y (length (s .vram)) (length (s .cgram)) (length (s .oam)) lent (s .regs .«mosaic_vcounter»)

@@ -3,38 +3,24 @@
 pub mod inner;
 
 use composite::ROW_BYTES;
-use refusal::Refusal;
+use composite::inner::lent_tested;
 use refusal::Verdict;
 use registers::PPURegisters;
-use registers::constants::LARGEST_COUNTER;
 ghost use mathlib.Core.Path.{_≡_};
 ghost use mathlib.Core.Bool.{true};
 ghost use Rattle.refusal.specs.Verdicts.{verdictMeans, Passed};
 ghost use Rattle.sprites.specs.Sprites.{Sound};
 ghost use Rattle.layers.specs.Layers.{scene};
-ghost use Rattle.renderer.specs.Renderer.{lentTests, rowTests, rowOutcome, pictureOutcome};
+ghost use Rattle.renderer.specs.Renderer.{rowTests, rowOutcome, pictureOutcome};
 
 // The bytes of a picture.
 pub const PICTURE_BYTES: usize = 172032;
 
-// The last tests of both calls; `lent` says that the lent row or picture has its length.
-fn lent_tested(lent: bool, counter: u8) -> Verdict
-    ensures { λ v. ⌜ (verdictMeans v ≡ lentTests lent counter) × (Passed v → (lent ≡ true)) ⌝ }
-{
-    if lent {
-        if counter <= LARGEST_COUNTER {
-            return Verdict::Fine;
-        }
-        return Verdict::Refused(Refusal::Counter);
-    }
-    Verdict::Refused(Refusal::Lent)
-}
-
-// All their tests.
+// The tests of both calls; `lent` says that the lent row or picture has its length.
 fn tested(y: usize, words: usize, colours: usize, bytes: usize, lent: bool, counter: u8) -> Verdict
     ensures { λ v. ⌜ (verdictMeans v ≡ rowTests y words colours bytes lent counter) × (Passed v → Sound colours bytes y × (lent ≡ true)) ⌝ }
 {
-    match sprites::inner::tested(y, words, colours, bytes, true) {
+    match sprites::inner::row_tested(y, words, colours, bytes) {
         Verdict::Fine => lent_tested(lent, counter),
         Verdict::Refused(n) => Verdict::Refused(n),
     }

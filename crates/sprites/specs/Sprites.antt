@@ -4,7 +4,7 @@ use mathlib.Core.Path.{_≡_}
 use mathlib.Core.Bool.{Bool, true}
 use mathlib.Core.List.{List, map}
 use lib.ListN.{length, take}
-use lib.Dec.{ltb, eqb}
+use lib.Dec.{ltb, leb, eqb}
 use Rattle.refusal.specs.Answer.{Answer, value, provided, _andThen_, Outcome, outcome}
 use Rattle.lists.specs.Tab.{tab}
 use Rattle.registers.specs.declared.PPURegisters.{PPURegisters}
@@ -47,20 +47,30 @@ shownOf r = record {
   window = spriteWindow r;
 }
 
--- a row above 223 is refused 1, VRAM of another length 2, colour memory 3, sprite memory 4, a column above 255 7
-abbrev pub rowTests : ℕ → ℕ → ℕ → ℕ → Bool → Answer Unit
-rowTests y words colours bytes column =
+-- a row above 223 is refused 1, VRAM of another length 2, colour memory 3, sprite memory 4
+abbrev pub rowTests : ℕ → ℕ → ℕ → ℕ → Answer Unit
+rowTests y words colours bytes =
     provided (ltb y 224) 1
     (provided (eqb words 32768) 2
     (provided (eqb colours 256) 3
-    (provided (eqb bytes 544) 4
-    (provided column 7 (value tt)))))
+    (provided (eqb bytes 544) 4 (value tt))))
 
 -- what they leave for the work
 pub record Sound (colours bytes y : ℕ) : Type 0 where
   pub palettes : colours ≡ 256
   pub memory : bytes ≡ 544
   pub row : y < 224
+
+-- a counter above 16 is refused 6, another argument out of range 7
+abbrev pub countTests : ℕ → Bool → Answer Unit
+countTests counter inRange = provided (leb counter 16) 6 (provided inRange 7 (value tt))
+
+-- the tests of a call that draws, lays or answers for a row, lowest first
+abbrev pub drawTests : ℕ → ℕ → ℕ → ℕ → ℕ → Bool → Answer Unit
+drawTests y words colours bytes counter inRange = rowTests y words colours bytes andThen countTests counter inRange
+
+abbrev pub testsOf : List ℕ → List ℕ → List ℕ → PPURegisters → ℕ → Bool → Answer Unit
+testsOf v g oam r y inRange = drawTests y (length v) (length g) (length oam) (r .«mosaic_vcounter») inRange
 
 -- a sprite line with no pixel
 unfoldable pub emptyLine : List Candidate
@@ -69,17 +79,14 @@ emptyLine = tab 256 (λ x. none)
 -- the sprite line of row y
 abbrev pub spriteLineOutcome : List ℕ → List ℕ → List ℕ → PPURegisters → ℕ → Outcome Unit (List Candidate)
 spriteLineOutcome v g oam r y =
-    outcome (rowTests y (length v) (length g) (length oam) true) tt (tab 256 (spritePixel v g oam r y)) emptyLine
+    outcome (testsOf v g oam r y true) tt (tab 256 (spritePixel v g oam r y)) emptyLine
 
 -- the candidates at column x of row y
 abbrev pub candidatesAnswer : List ℕ → List ℕ → List ℕ → PPURegisters → ℕ → ℕ → Answer Candidates
 candidatesAnswer v g oam r x y =
-    rowTests y (length v) (length g) (length oam) (ltb x 256)
-    andThen value (candidatesOf (shownOf r) x (spritePixel v g oam r y x))
+    testsOf v g oam r y (ltb x 256) andThen value (candidatesOf (shownOf r) x (spritePixel v g oam r y x))
 
 -- both lines after row y is laid over them
 abbrev pub linesOutcome : List ℕ → List ℕ → List ℕ → PPURegisters → ℕ → Lines → Outcome Unit Lines
 linesOutcome v g oam r y lines =
-    outcome (rowTests y (length v) (length g) (length oam) true) tt
-    (layLines (shownOf r) (spritePixel v g oam r y) lines)
-    lines
+    outcome (testsOf v g oam r y true) tt (layLines (shownOf r) (spritePixel v g oam r y) lines) lines

@@ -9,6 +9,7 @@ use refusal::Refusal;
 use refusal::Verdict;
 use registers::PPURegisters;
 use registers::constants::COLOUR_WORDS;
+use registers::constants::LARGEST_COUNTER;
 use registers::constants::SCREEN_HEIGHT;
 use registers::inner::bit;
 use sprite_fetch::Fetched;
@@ -23,17 +24,16 @@ ghost use lib.ListN.{length};
 ghost use Rattle.refusal.specs.Verdicts.{verdictMeans, Passed};
 ghost use Rattle.lists.specs.Tab.{tab};
 ghost use Rattle.laying.specs.Laying.{candidatesOf, layLines};
-ghost use Rattle.sprites.specs.Sprites.{Sound, rowTests, viewOf, chosenSprites, spritePixel, shownOf, emptyLine};
+ghost use Rattle.sprites.specs.Sprites.{Sound, rowTests, countTests, drawTests, viewOf, chosenSprites, spritePixel, shownOf, emptyLine};
 ghost use Rattle.sprite_fetch.specs.Fetch.{fetched};
 ghost use Rattle.sprite_fetch.specs.Walk.{fetchedList, AllSound};
 
 // The sprites' bit of tm, ts, tmw and tsw.
 const OBJ: usize = 4;
 
-// The tests of a row: its number and the lengths of the three memories; and last that the column is
-// in its range, which `column` says.
-pub fn tested(y: usize, words: usize, colours: usize, bytes: usize, column: bool) -> Verdict
-    ensures { λ r. ⌜ (verdictMeans r ≡ rowTests y words colours bytes column) × (Passed r → Sound colours bytes y × (column ≡ true)) ⌝ }
+// The first tests of a row: its number and the lengths of the three memories.
+pub fn row_tested(y: usize, words: usize, colours: usize, bytes: usize) -> Verdict
+    ensures { λ v. ⌜ (verdictMeans v ≡ rowTests y words colours bytes) × (Passed v → Sound colours bytes y) ⌝ }
 {
     if y >= SCREEN_HEIGHT {
         return Verdict::Refused(Refusal::Row);
@@ -47,10 +47,38 @@ pub fn tested(y: usize, words: usize, colours: usize, bytes: usize, column: bool
     if bytes != OAM_SIZE {
         return Verdict::Refused(Refusal::Oam);
     }
-    if column {
+    Verdict::Fine
+}
+
+// The last tests: the counter, and that the other arguments are in their ranges, which `in_range`
+// says.
+fn counted(counter: u8, in_range: bool) -> Verdict
+    ensures { λ v. ⌜ (verdictMeans v ≡ countTests counter «in_range») × (Passed v → («in_range» ≡ true)) ⌝ }
+{
+    if counter > LARGEST_COUNTER {
+        return Verdict::Refused(Refusal::Counter);
+    }
+    if in_range {
         Verdict::Fine
     } else {
         Verdict::Refused(Refusal::Argument)
+    }
+}
+
+// All of them.
+pub fn tested(
+    y: usize,
+    words: usize,
+    colours: usize,
+    bytes: usize,
+    counter: u8,
+    in_range: bool,
+) -> Verdict
+    ensures { λ v. ⌜ (verdictMeans v ≡ drawTests y words colours bytes counter «in_range») × (Passed v → Sound colours bytes y × («in_range» ≡ true)) ⌝ }
+{
+    match row_tested(y, words, colours, bytes) {
+        Verdict::Fine => counted(counter, in_range),
+        Verdict::Refused(n) => Verdict::Refused(n),
     }
 }
 

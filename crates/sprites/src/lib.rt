@@ -31,7 +31,14 @@ pub fn sprite_line(
 ) -> SpriteLineAnswer
     ensures { λ a. ⌜ spriteLineMeans a ≡ spriteLineOutcome (now (vram .entry)) (now (cgram .entry)) (now (oam .entry)) r y ⌝ }
 {
-    match inner::tested(y, vram.len(), cgram.len(), oam.len(), true) {
+    match inner::tested(
+        y,
+        vram.len(),
+        cgram.len(),
+        oam.len(),
+        r.mosaic_vcounter,
+        true,
+    ) {
         Verdict::Fine => {
             let line = inner::line(vram, cgram, oam, r, y);
             SpriteLineAnswer {
@@ -61,7 +68,14 @@ pub fn sprite_candidates(
     ensures { λ a. ⌜ candidatesMean a ≡ candidatesAnswer (now (vram .entry)) (now (cgram .entry)) (now (oam .entry)) r x y ⌝ }
 {
     let column = x < SCREEN_WIDTH;
-    match inner::tested(y, vram.len(), cgram.len(), oam.len(), column) {
+    match inner::tested(
+        y,
+        vram.len(),
+        cgram.len(),
+        oam.len(),
+        r.mosaic_vcounter,
+        column,
+    ) {
         Verdict::Fine => CandidatesAnswer::Is(inner::candidates(vram, cgram, oam, r, x, y)),
         Verdict::Refused(n) => CandidatesAnswer::Refused(n),
     }
@@ -78,7 +92,14 @@ pub fn render_sprites(
 ) -> LinesAnswer
     ensures { λ a. ⌜ linesMean a ≡ linesOutcome (now (vram .entry)) (now (cgram .entry)) (now (oam .entry)) r y lines ⌝ }
 {
-    match inner::tested(y, vram.len(), cgram.len(), oam.len(), true) {
+    match inner::tested(
+        y,
+        vram.len(),
+        cgram.len(),
+        oam.len(),
+        r.mosaic_vcounter,
+        true,
+    ) {
         Verdict::Fine => {
             let laid = inner::lay(lines, vram, cgram, oam, r, y);
             LinesAnswer {

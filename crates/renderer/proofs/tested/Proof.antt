@@ -7,14 +7,14 @@ use Rattle.renderer.proofs.tested.Tie as tie
 returns : tie.Need-returns
 returns c =
     let e = c .before in
-    let t = e .before .before .tested .ensures in
+    let t = e .before .before .row-tested .ensures in
     let v = e .enum-told .given .1 in
-    (c .lent-tested .ensures .0 ∙ by-verdict _ (t .0) v, λ n. (t .1 (passed v) .0, c .lent-tested .ensures .1 n))
+    (c .lent-tested .ensures .0 ∙ by-verdict _ (t .0) v, λ n. (t .1 (passed v), c .lent-tested .ensures .1 n))
 
 returns-2 : tie.Need-returns-2
 returns-2 c =
     let n = c .before in
-    (by-verdict _ (n .before .before .tested .ensures .0) (n .n .given .1), λ e. absurd e)
+    (by-verdict _ (n .before .before .row-tested .ensures .0) (n .n .given .1), λ e. absurd e)
 
 pub tested-spec : {M : Type 1} → statement M
 tested-spec =

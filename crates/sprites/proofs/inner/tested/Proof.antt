@@ -1,39 +1,21 @@
-use borrow.Author.Tests.{lt-ltb, le-ltb, eq-eqb, ne-eqb}
+use mathlib.Core.Path.{_∙_}
+use Rattle.refusal.specs.Verdicts.{passed, by-verdict}
+use borrow.Author.Needs.{needs}
 use Rattle.sprites.proofs.inner.tested.Statement.{statement}
 use Rattle.sprites.proofs.inner.tested.Tie as tie
 
 returns : tie.Need-returns
-returns c = (simp (le-ltb _ _ (c .if1 .taken)), λ e. absurd e)
+returns c =
+    let e = c .before in
+    let t = e .before .before .row-tested .ensures in
+    let v = e .enum-told .given .1 in
+    (c .counted .ensures .0 ∙ by-verdict _ (t .0) v, λ n. (t .1 (passed v), c .counted .ensures .1 n))
 
 returns-2 : tie.Need-returns-2
-returns-2 c = (simp (lt-ltb _ _ (c .before .if1 .left), ne-eqb _ _ (c .if2 .taken)), λ e. absurd e)
-
-returns-3 : tie.Need-returns-3
-returns-3 c =
-    let d = c .before in
-    (simp (lt-ltb _ _ (d .before .if1 .left), eq-eqb _ _ (d .if2 .left), ne-eqb _ _ (c .if3 .taken)), λ e. absurd e)
-
-returns-4 : tie.Need-returns-4
-returns-4 c =
-    let d = c .before in
-    let b = d .before in
-    (simp (lt-ltb _ _ (b .before .if1 .left), eq-eqb _ _ (b .if2 .left), eq-eqb _ _ (d .if3 .left), ne-eqb _ _ (c .if4 .taken)), λ e. absurd e)
-
-returns-5 : tie.Need-returns-5
-returns-5 c =
-    let e = c .before in
-    let d = e .before in
-    let b = d .before in (
-      simp (lt-ltb _ _ (b .before .if1 .left), eq-eqb _ _ (b .if2 .left), eq-eqb _ _ (d .if3 .left), eq-eqb _ _ (e .if4 .left), c .if5 .taken),
-      λ n. (record { palettes = d .if3 .left; memory = e .if4 .left; row = b .before .if1 .left }, c .if5 .taken),
-    )
-
-returns-6 : tie.Need-returns-6
-returns-6 c =
-    let e = c .before in
-    let d = e .before in
-    let b = d .before in
-    (simp (lt-ltb _ _ (b .before .if1 .left), eq-eqb _ _ (b .if2 .left), eq-eqb _ _ (d .if3 .left), eq-eqb _ _ (e .if4 .left), c .if5 .left), λ n. absurd n)
+returns-2 c =
+    let n = c .before in
+    (by-verdict _ (n .before .before .row-tested .ensures .0) (n .n .given .1), λ e. absurd e)
 
 pub tested-spec : {M : Type 1} → statement M
-tested-spec = tie.close (tie.spec returns returns-2 returns-3 returns-4 returns-5 returns-6)
+tested-spec =
+    tie.close (tie.spec (λ c κs. search needs) (λ c. search needs) (λ c κs. search needs) (λ c. search needs) returns returns-2)

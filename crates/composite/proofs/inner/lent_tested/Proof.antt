@@ -1,6 +1,6 @@
 use borrow.Author.Tests.{le-leb, lt-leb}
-use Rattle.renderer.proofs.lent_tested.Statement.{statement}
-use Rattle.renderer.proofs.lent_tested.Tie as tie
+use Rattle.composite.proofs.inner.lent_tested.Statement.{statement}
+use Rattle.composite.proofs.inner.lent_tested.Tie as tie
 
 returns : tie.Need-returns
 returns c = (simp (c .before .if1 .taken, le-leb _ _ (c .if2 .taken)), λ e. c .before .if1 .taken)

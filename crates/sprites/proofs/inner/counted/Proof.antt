@@ -1,6 +1,6 @@
 use borrow.Author.Tests.{le-leb, lt-leb}
-use Rattle.layers.proofs.counted.Statement.{statement}
-use Rattle.layers.proofs.counted.Tie as tie
+use Rattle.sprites.proofs.inner.counted.Statement.{statement}
+use Rattle.sprites.proofs.inner.counted.Tie as tie
 
 returns : tie.Need-returns
 returns c = (simp (lt-leb _ _ (c .if1 .taken)), λ e. absurd e)
