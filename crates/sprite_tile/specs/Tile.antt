@@ -54,8 +54,13 @@ pixelOf colours palette z i = record {
   pixel = record { color = getD colours i 0; z = z; layer = Obj; «obj_math» = leb 4 palette };
 }
 
--- what a sprite shows at place px of the row, from its left edge on: a horizontal flip mirrors the whole width
+-- what a sprite of width w has at place px of a line of its picture, from its left edge on: a horizontal flip mirrors the whole
+-- width
+abbrev pub pixelOn : List ℕ → List ℕ → Sprite → ℕ → ℕ → ℕ → Candidate
+pixelOn v g s w line px =
+    pixelOf (coloursOf g (s .palette)) (s .palette) (spritePriority (s .priority)) (indexAt v s (mirrored px w (s .«flip_x»)) line)
+
+-- what it shows at place px of the row: the pixel of the line that the row shows
 unfoldable pub pixelIn : List ℕ → List ℕ → View → Sprite → ℕ → Candidate
 pixelIn v g view s px =
-    pixelOf (coloursOf g (s .palette)) (s .palette) (spritePriority (s .priority))
-    (indexAt v s (mirrored px (sizeIn (view .objsel) s .width) (s .«flip_x»)) (lineIn view s (sizeIn (view .objsel) s .width)))
+    pixelOn v g s (sizeIn (view .objsel) s .width) (lineIn view s (sizeIn (view .objsel) s .width)) px

@@ -1,21 +1,22 @@
 -- Document 01's lines on sprites, both sides of each edge: of every sprite that has the columns, the size and the flip named.
-use Prim.Native.Nat.{ℕ, zero, suc, _+_, _-_, _*_, _/_, _%_, _<_, _≤_}
-use mathlib.Core.Path.{_≡_, refl, sym, _∙_}
+use Prim.Native.Nat.{ℕ, _+_, _*_, _/_, _%_, _<_, _≤_}
+use mathlib.Core.Path.{_≡_, refl, ap, _∙_}
 use mathlib.Core.Bool.{true, false, cond, _||_}
 use mathlib.Core.List.{List, [], _∷_, map}
 use native.Mathlib.Omega.{arith}
-use lib.Dec.{ltb, eqb}
-use lib.ListN.{take}
-use borrow.Author.Tests.{le-ltb, ne-eqb}
+use lib.ListN.{length, take, length-take}
+use lib.Seq.{take-all}
+use borrow.Author.Tests.{ne-eqb}
 use Rattle.lists.specs.Tab.{tab}
+use Rattle.lists.specs.Keep.{keep}
 use Rattle.lists.specs.Each.{Each, each-tab, each-keep, each-take}
 use Rattle.oam.specs.declared.Sprite.{Sprite}
-use Rattle.oam.specs.Sprites.{chrBaseOf}
+use Rattle.oam.specs.Sprites.{sized, chrBaseOf}
 use Rattle.sprite_row.specs.SpriteRow.{x9, sizeIn, lineOf, meetsRow, passes, passedOver, counts, countTo, tilesOf}
 use Rattle.line.specs.Pixels.{none}
 use Rattle.sprite_tile.specs.declared.View.{View}
-use Rattle.sprite_tile.specs.Tile.{lineIn, pixelIn}
-use Rattle.sprite_fetch.specs.Fetch.{tile, countingPlaces, fetchedOf, among, across, fetchedPixel}
+use Rattle.sprite_tile.specs.Tile.{lineIn, pixelOn, pixelIn}
+use Rattle.sprite_fetch.specs.Fetch.{Tile, tile, countingPlaces, fetchOrder, fetched, fetchedOf, among, across, fetchedPixel}
 use Rattle.sprite_fetch.specs.Turns.{leaves, own-places}
 
 -- no place above a sprite's own is among its tiles
@@ -26,32 +27,36 @@ off s n u h (t ∷ l) e =
     let b : t < n = e .0 in
     (λ i. ne-eqb t u (λ d. absurd (omega arith)) i || among (map (tile s) l) u) ∙ off s n u h l (e .1)
 
--- at x9 256 a sprite of 64 columns has no pixel: its tiles are all right of the picture
-module _ (v g : List ℕ) (view : View) (limit : ℕ) (s : Sprite) (later : List Sprite) (x : ℕ) (at : x9 s ≡ 256)
-    (wide : sizeIn (view .objsel) s .width ≡ 64) (h : x < 256) where
-  places : Each (λ t. t < 8) (countingPlaces (view .objsel) s)
+module _ (v g : List ℕ) (view : View) (limit : ℕ) (s : Sprite) (later : List Sprite) (x : ℕ) where
+  places : let n = sizeIn (view .objsel) s .width / 8 in Each (λ t. t < n) (countingPlaces (view .objsel) s)
   unfolding countingPlaces
   places =
       let n = sizeIn (view .objsel) s .width / 8 in
-      each-keep (λ t. t < 8) (counts (x9 s)) (tab n (λ t. t)) (each-tab (λ t. t < 8) n (λ t. t) (λ t b. omega (arith, wide)))
+      each-keep (λ t. t < n) (counts (x9 s)) (tab n (λ t. t)) (each-tab (λ t. t < n) n (λ t. t) (λ t b. b))
 
-  pub nothing-at-256 : fetchedPixel v g view s (fetchedOf limit (view .objsel) s later) x ≡ none
+  -- a sprite has no pixel at a column that its tiles do not reach
+  beyond : sizeIn (view .objsel) s .width / 8 ≤ across s x / 8 →
+      fetchedPixel v g view s (fetchedOf limit (view .objsel) s later) x ≡ none
   unfolding fetchedPixel
-  nothing-at-256 =
+  beyond h =
       let o = view .objsel in
+      let w = sizeIn o s .width / 8 in
       let n = leaves limit o s later in
-      let far : across s x / 8 ≡ (x + 512 - 256) % 512 / 8 = λ i. (x + 512 - at i) % 512 / 8 in
-      let u : 8 ≤ across s x / 8 = rw far (omega arith) in
       let e =
       (λ i. among (own-places limit o s later i) (across s x / 8))
-      ∙ off s 8 (across s x / 8) u (take n (countingPlaces o s)) (each-take (λ t. t < 8) n (countingPlaces o s) places) in
+      ∙ off s w (across s x / 8) h (take n (countingPlaces o s)) (each-take (λ t. t < w) n (countingPlaces o s) places) in
       λ i. cond (e i) (pixelIn v g view s (across s x)) none
 
--- at 505 the first column alone is less than 8 right of the left edge
-first-column : (x : ℕ) → x < 256 → ltb ((x + 512 - 505) % 512) 8 ≡ eqb x 0
-first-column zero h = refl
-first-column (suc n) h =
-    le-ltb ((suc n + 512 - 505) % 512) 8 (omega arith) ∙ sym (ne-eqb (suc n) 0 (λ e. absurd (omega arith)))
+-- at x9 505 the one tile of a sprite of 8 columns is fetched, where the limit leaves it room
+one-tile : (limit objsel : ℕ) (s : Sprite) (later : List Sprite) → x9 s ≡ 505 → sizeIn objsel s .width ≡ 8 →
+    length (fetched limit objsel later) < limit → fetchedOf limit objsel s later ≡ tile s 0 ∷ []
+unfolding countingPlaces counts keep tab
+one-tile limit o s later at wide room =
+    let places : countingPlaces o s ≡ 0 ∷ [] = rw (at, wide) in
+    let left : 1 ≤ leaves limit o s later = omega (arith, length-take limit (fetchOrder o later)) in
+    own-places limit o s later
+    ∙ (λ i. map (tile s) (take (leaves limit o s later) (places i)))
+    ∙ ap (map (tile s)) (take-all (leaves limit o s later) (0 ∷ []) left)
 
 last : (n : ℕ) → (n * 4 + 3) % 4 ≡ 3
 last n = omega arith
@@ -63,6 +68,29 @@ base-of objsel e =
     let select : objsel / 8 % 4 ≡ 3 = rw eighth (last (objsel / 32)) in
     rw (base, select)
 
+-- a sprite that is 16x32 by objsel, flipped vertically, without interlace
+pub record TallFlipped (view : View) (s : Sprite) : Type 0 where
+  pub size : sizeIn (view .objsel) s ≡ sized 16 32
+  pub plain : view .«obj_interlace» ≡ false
+  pub flipped : s .«flip_y» ≡ true
+
+-- the row meets the sprite, and shows its line n: where a tile is fetched, its columns have that line's pixels
+pub record ShowsLine (view : View) (s : Sprite) (n : ℕ) : Type 0 where
+  pub meets : meetsRow (view .row) (view .objsel) (view .«obj_interlace») s ≡ true
+  pub pixels : (v g : List ℕ) (tiles : List Tile) (x : ℕ) → among tiles (across s x / 8) ≡ true →
+      fetchedPixel v g view s tiles x ≡ pixelOn v g s (sizeIn (view .objsel) s .width) n (across s x)
+
+shows-line : (view : View) (s : Sprite) {n : ℕ} → meetsRow (view .row) (view .objsel) (view .«obj_interlace») s ≡ true →
+    lineIn view s (sizeIn (view .objsel) s .width) ≡ n → ShowsLine view s n
+unfolding fetchedPixel pixelIn
+shows-line view s m e =
+    record {
+      meets = m;
+      pixels = λ v g tiles x t.
+          (λ i. cond (t i) (pixelIn v g view s (across s x)) none)
+          ∙ (λ i. pixelOn v g s (sizeIn (view .objsel) s .width) (e i) (across s x));
+    }
+
 -- the edges
 pub record SpriteEdges : Type 0 where
   -- x9 504, width 8: passed over
@@ -70,7 +98,14 @@ pub record SpriteEdges : Type 0 where
   -- 505: one tile, one visible column
   pub met-505 : (s : Sprite) (objsel : ℕ) → x9 s ≡ 505 → sizeIn objsel s .width ≡ 8 → passedOver objsel s ≡ false
   pub tiles-505 : (s : Sprite) (objsel : ℕ) → x9 s ≡ 505 → sizeIn objsel s .width ≡ 8 → tilesOf objsel s ≡ 1
-  pub column-505 : (s : Sprite) (x : ℕ) → x9 s ≡ 505 → x < 256 → ltb (across s x) 8 ≡ eqb x 0
+  pub fetched-505 : (limit objsel : ℕ) (s : Sprite) (later : List Sprite) → x9 s ≡ 505 → sizeIn objsel s .width ≡ 8 →
+      length (fetched limit objsel later) < limit → fetchedOf limit objsel s later ≡ tile s 0 ∷ []
+  pub column-505 : (v g : List ℕ) (view : View) (limit : ℕ) (s : Sprite) (later : List Sprite) → x9 s ≡ 505 →
+      sizeIn (view .objsel) s .width ≡ 8 → length (fetched limit (view .objsel) later) < limit →
+      fetchedPixel v g view s (fetchedOf limit (view .objsel) s later) 0 ≡ pixelIn v g view s 7
+  pub others-505 : (v g : List ℕ) (view : View) (limit : ℕ) (s : Sprite) (later : List Sprite) (x : ℕ) → x9 s ≡ 505 →
+      sizeIn (view .objsel) s .width ≡ 8 → 0 < x → x < 256 →
+      fetchedPixel v g view s (fetchedOf limit (view .objsel) s later) x ≡ none
   -- x9 256, width 64: 8 tiles, no pixel
   pub tiles-256 : (s : Sprite) (objsel : ℕ) → x9 s ≡ 256 → sizeIn objsel s .width ≡ 64 → tilesOf objsel s ≡ 8
   pub pixels-256 : (v g : List ℕ) (view : View) (limit : ℕ) (s : Sprite) (later : List Sprite) (x : ℕ) → x9 s ≡ 256 →
@@ -79,31 +114,34 @@ pub record SpriteEdges : Type 0 where
   pub tiles-500 : (s : Sprite) (objsel : ℕ) → x9 s ≡ 500 → sizeIn objsel s .width ≡ 64 → tilesOf objsel s ≡ 7
   -- top 250, height 16: row 2 is sprite line 8; row 10 misses
   pub line-2 : (s : Sprite) → s .y ≡ 250 → lineOf 2 (s .y) ≡ 8
+  pub shown-2 : (view : View) (s : Sprite) → view .row ≡ 2 → view .«obj_interlace» ≡ false → s .y ≡ 250 →
+      sizeIn (view .objsel) s .height ≡ 16 → s .«flip_y» ≡ false → ShowsLine view s 8
   pub row-2 : (s : Sprite) (objsel : ℕ) → s .y ≡ 250 → sizeIn objsel s .height ≡ 16 → meetsRow 2 objsel false s ≡ true
   pub row-10 : (s : Sprite) (objsel : ℕ) → s .y ≡ 250 → sizeIn objsel s .height ≡ 16 → meetsRow 10 objsel false s ≡ false
   -- tall 16x32 flipped: line 0 is 15, line 16 is 31
-  pub tall-0 : (view : View) (s : Sprite) → view .«obj_interlace» ≡ false → s .«flip_y» ≡ true → lineOf (view .row) (s .y) ≡ 0 →
-      lineIn view s 16 ≡ 15
-  pub tall-16 : (view : View) (s : Sprite) → view .«obj_interlace» ≡ false → s .«flip_y» ≡ true → lineOf (view .row) (s .y) ≡ 16 →
-      lineIn view s 16 ≡ 31
+  pub tall-0 : (view : View) (s : Sprite) → TallFlipped view s → lineOf (view .row) (s .y) ≡ 0 → ShowsLine view s 15
+  pub tall-16 : (view : View) (s : Sprite) → TallFlipped view s → lineOf (view .row) (s .y) ≡ 16 → ShowsLine view s 31
   -- objsel low bits 0x1B, table 1: base 0x2000
   pub base-1B : (objsel : ℕ) → objsel % 32 ≡ 0x1B → chrBaseOf objsel 1 ≡ 0x2000
 
 pub sprite-edges : SpriteEdges
-unfolding passes counts countTo meetsRow lineIn
+unfolding passes counts countTo meetsRow lineIn among fetchedPixel
 sprite-edges =
     record {
       passed-504 = λ s o a w. rw (a, w);
       met-505 = λ s o a w. rw (a, w);
       tiles-505 = λ s o a w. rw (a, w);
-      column-505 = λ s x a h. (λ i. ltb ((x + 512 - a i) % 512) 8) ∙ first-column x h;
+      fetched-505 = one-tile;
+      column-505 = λ v g view limit s later a w room. rw (one-tile limit (view .objsel) s later a w room, a);
+      others-505 = λ v g view limit s later x a w n h. beyond v g view limit s later x (rw (a, w) (omega arith));
       tiles-256 = λ s o a w. rw (a, w);
-      pixels-256 = nothing-at-256;
+      pixels-256 = λ v g view limit s later x a w h. beyond v g view limit s later x (rw (a, w) (omega arith));
       tiles-500 = λ s o a w. rw (a, w);
       line-2 = λ s a. rw a;
+      shown-2 = λ view s r p y h f. shows-line view s (rw (r, p, y, h)) (rw (r, p, y, f));
       row-2 = λ s o a t. rw (a, t);
       row-10 = λ s o a t. rw (a, t);
-      tall-0 = λ w s i f l. rw (i, f, l);
-      tall-16 = λ w s i f l. rw (i, f, l);
+      tall-0 = λ view s t l. shows-line view s (rw (t .size, t .plain, l)) (rw (t .size, t .plain, t .flipped, l));
+      tall-16 = λ view s t l. shows-line view s (rw (t .size, t .plain, l)) (rw (t .size, t .plain, t .flipped, l));
       base-1B = base-of;
     }
