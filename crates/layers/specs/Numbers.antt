@@ -1,13 +1,36 @@
 -- A layer by its number: a background, the sprites, or none.
 use Prim.Native.Nat.{ℕ, _<_, _≤_}
-use mathlib.Core.Path.{_≡_, sym}
-use mathlib.Core.Bool.{cond}
+use mathlib.Core.Path.{_≡_, refl, sym, _∙_}
+use mathlib.Core.Bool.{Bool, cond}
+use mathlib.Core.List.{List}
 use native.Mathlib.Omega.{arith}
 use lib.Dec.{ltb, eqb}
+use lib.ListN.{length}
 use borrow.Author.Tests.{lt-ltb, le-ltb, ne-eqb}
-use Rattle.line.specs.Pixels.{none}
+use Rattle.lists.specs.Tab.{by-getD, length-tab}
+use Rattle.line.specs.declared.LinePixel.{LinePixel}
+use Rattle.line.specs.declared.Candidate.{Candidate}
+use Rattle.line.specs.declared.Lines.{Lines}
+use Rattle.line.specs.Pixels.{noPixel, none, length-backdrop}
+use Rattle.laying.specs.declared.Shown.{Shown}
+use Rattle.laying.specs.Laying.{onMain, onSub, onScreen, layLine, layLines}
 use Rattle.sprites.specs.Sprites as sprites
-use Rattle.layers.specs.Layers.{Scene, bgShown, bgAt, spriteAt, layerShown, layerPixel}
+use Rattle.layers.specs.Layers.{Scene, bgShown, bgAt, spriteAt, layerShown, layerPixel, startLines}
+
+-- both lines have their 256 pixels
+abbrev pub Whole : Lines → Type 0
+Whole l = (length (l .main) ≡ 256) × (length (l .sub) ≡ 256)
+
+-- where there is no pixel, a line is left
+bare : (shown : ℕ → Bool) (line : List LinePixel) → length line ≡ 256 → layLine (λ x. onScreen (shown x) none) line ≡ line
+bare shown line long = sym (by-getD 256 (λ x. _) line noPixel long (λ x h. refl))
+
+-- the backdrops are whole, and what is laid leaves whole lines
+pub whole-start : (s : Scene) → Whole (startLines s)
+whole-start s = (length-backdrop _, length-backdrop _)
+
+pub whole-laid : (shown : Shown) (row : ℕ → Candidate) (l : Lines) → Whole (layLines shown row l)
+whole-laid shown row l = (length-tab _ 256, length-tab _ 256)
 
 module _ (s : Scene) (k : ℕ) where
   pub shown-low : k < 4 → bgShown s k ≡ layerShown s k
@@ -33,3 +56,9 @@ module _ (s : Scene) (k : ℕ) where
         let high-number = le-ltb k 4 (omega arith) in
         let not-four = ne-eqb k 4 (λ e. absurd (omega arith)) in
         λ i x. cond (sym high-number i) (bgAt s y k x) (cond (sym not-four i) (spriteAt s y x) none)
+
+    -- so a number above 4 lays nothing
+    pub none-laid : 5 ≤ k → (l : Lines) → Whole l → layLines (layerShown s k) (layerPixel s y k) l ≡ l
+    none-laid h l w =
+        (λ i. layLines (layerShown s k) (sym (pixel-none h) i) l)
+        ∙ (λ i. record { main = bare (onMain (layerShown s k)) (l .main) (w .0) i; sub = bare (onSub (layerShown s k)) (l .sub) (w .1) i })

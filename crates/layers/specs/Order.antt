@@ -1,20 +1,23 @@
 -- Laying order never shows (demand 3). From the backdrops, the five layers laid in any order, each at least once, leave at
 -- every pixel of both lines the candidate of greatest priority, or the backdrop where there is none.
 use Prim.Native.Nat.{ℕ, _<_}
-use mathlib.Core.Path.{_≡_, refl, sym, ap, _∙_}
-use mathlib.Core.Bool.{true}
+use mathlib.Core.Path.{_≡_, refl, sym, ap, subst, _∙_}
+use mathlib.Core.Bool.{Bool, true, false}
 use mathlib.Core.List.{List, [], _∷_, List·Memᴰ}
-use lib.Dec.{ltb}
-use lib.ListN.{getD}
-use borrow.Author.Tests.{lt-ltb}
-use Rattle.refusal.specs.Answer.{value, outcome}
-use Rattle.lists.specs.Each.{Each}
+use native.Mathlib.Omega.{arith}
+use lib.Dec.{ltb, eqb}
+use lib.ListN.{length, getD}
+use borrow.Author.Tests.{ltb-false}
+use Rattle.refusal.specs.Answer.{Answer, value, refused, provided, outcome}
+use Rattle.refusal.specs.Verdicts.{verdictMeans}
 use Rattle.line.specs.declared.Lines.{Lines}
-use Rattle.line.specs.Pixels.{noPixel, backdropOf}
+use Rattle.line.specs.Pixels.{noPixel, backdropOf, backdropLines}
 use Rattle.laying.specs.declared.LinesAnswer.{LinesAnswer}
 use Rattle.laying.specs.Answers.{linesMean}
+use Rattle.laying.specs.Laying.{layLines}
 use Rattle.laying.specs.Order.{Seen, layAll, main-seen, sub-seen, order-never-shows}
-use Rattle.layers.specs.Layers.{Scene, layerShown, layerPixel, layerCandidates, layered, startLines, testsOf, layerOutcome}
+use Rattle.layers.specs.Layers.{Scene, layerShown, layerPixel, layerCandidates, layered, startLines, testsOf, backdropOutcome, layerOutcome}
+use Rattle.layers.specs.Numbers.{Whole, whole-start, whole-laid, none-laid}
 use Rattle.layers.specs.Ties.{no-ties-on-main, no-ties-on-sub, five-on-main, five-on-sub}
 
 -- each of the five layers is among ks
@@ -49,24 +52,73 @@ module _ (s : Scene) (y : ℕ) where
       (λ x h. no-ties-on-main s y x)
       (λ x h. no-ties-on-sub s y x)
 
-  -- The same of calls. A run of calls of `render_layer` with the layers ks: each takes the lines that the one before left, and
-  -- enters by its contract alone.
+  -- The same of calls of `render_layer` with any numbers ks: each takes the lines that the one before left, and enters by its
+  -- contract alone.
   pub data Calls : Lines → List ℕ → Lines → Type 0 where
     none : {l : Lines} → Calls l [] l
     call : {l m : Lines} {k : ℕ} {ks : List ℕ} (a : LinesAnswer) → linesMean a ≡ layerOutcome s y k l →
         Calls (a .lines) ks m → Calls l (k ∷ ks) m
 
-  -- on a row that is drawn it leaves what its layers leave
-  calls-lay : testsOf s y true ≡ value tt → {l m : Lines} (ks : List ℕ) → Each (λ k. k < 5) ks → Calls l ks m →
+  either : {a b : Lines} (t : Answer Unit) → a ≡ b → outcome {A = Unit} t tt a b .left ≡ a
+  either (value u) e = refl
+  either (refused n) e = sym e
+
+  -- on a row that is drawn a call leaves what laying its layer leaves; a number above 4 is refused, and lays nothing
+  call-lays : testsOf s y true ≡ value tt → (k : ℕ) (l : Lines) → Whole l →
+      layerOutcome s y k l .left ≡ layLines (layerShown s k) (layerPixel s y k) l
+  call-lays t k l w = by-test (ltb k 5) refl
+    where
+      by-test : (b : Bool) → ltb k 5 ≡ b →
+          outcome {A = Unit} (testsOf s y b) tt (layered s y k l) l .left ≡ layLines (layerShown s k) (layerPixel s y k) l
+      by-test true e = λ i. outcome {A = Unit} (t i) tt (layered s y k l) l .left
+      by-test false e = either (testsOf s y false) (none-laid s k y (ltb-false k 5 e) l w)
+
+  -- so the calls leave what their layers leave
+  pub calls-lay : testsOf s y true ≡ value tt → {l m : Lines} (ks : List ℕ) → Whole l → Calls l ks m →
       m ≡ layAll (layerShown s) (layerPixel s y) ks l
   unfolding layAll
-  calls-lay t [] e none = refl
-  calls-lay t {l} {m} (k ∷ ks) e (call a c r) =
-      let fine : testsOf s y (ltb k 5) ≡ value tt = ap (testsOf s y) (lt-ltb k 5 (e .0)) ∙ t in
-      let laid : a .lines ≡ layered s y k l = (λ i. c i .left) ∙ (λ i. outcome (fine i) tt (layered s y k l) l .left) in
-      calls-lay t ks (e .1) r ∙ ap (layAll (layerShown s) (layerPixel s y) ks) laid
+  calls-lay t [] w none = refl
+  calls-lay t {l} (k ∷ ks) w (call a c r) =
+      let left : a .lines ≡ layerOutcome s y k l .left = λ i. c i .left in
+      let laid = left ∙ call-lays t k l w in
+      let whole = subst Whole (sym laid) (whole-laid (layerShown s k) (layerPixel s y k) l) in
+      calls-lay t ks whole r ∙ ap (layAll (layerShown s) (layerPixel s y) ks) laid
 
-  -- so any two runs from the backdrops, each with all five layers, end in the same lines
-  pub any-calls : testsOf s y true ≡ value tt → {m n : Lines} (ks js : List ℕ) → Each (λ k. k < 5) ks → Each (λ k. k < 5) js →
-      AllFive ks → AllFive js → Calls (startLines s) ks m → Calls (startLines s) js n → m ≡ n
-  any-calls t ks js d e f g c r = calls-lay t ks d c ∙ any-order ks js f g ∙ sym (calls-lay t js e r)
+  -- a run: calls from the lines that a call of `backdrop_lines` leaves, which enters by its contract too and was not refused
+  pub record Run (ks : List ℕ) (m : Lines) : Type 0 where
+    pub start : LinesAnswer
+    pub begins : linesMean start ≡ backdropOutcome (s .cgram) (s .regs)
+    pub fine : verdictMeans (start .verdict) ≡ value tt
+    pub calls : Calls (start .lines) ks m
+
+  from-start : (a : LinesAnswer) → linesMean a ≡ backdropOutcome (s .cgram) (s .regs) → verdictMeans (a .verdict) ≡ value tt →
+      a .lines ≡ startLines s
+  from-start a = by-test (eqb (length (s .cgram)) 256)
+    where
+      by-test : (t : Bool) → linesMean a ≡ outcome (provided t 3 (value tt)) tt (startLines s) (backdropLines 0 0) →
+          verdictMeans (a .verdict) ≡ value tt → a .lines ≡ startLines s
+      by-test true e f = λ i. e i .left
+      by-test false e f =
+          let said : verdictMeans (a .verdict) ≡ refused 3 = λ i. e i .said in
+          let z : _≡_ {A = ℕ} 0 1 = cc in
+          absurd (omega arith)
+
+  pub run-lays : testsOf s y true ≡ value tt → {m : Lines} (ks : List ℕ) → Run ks m → m ≡ linesAfter ks
+  run-lays t ks r =
+      let from = from-start (r .start) (r .begins) (r .fine) in
+      calls-lay t ks (subst Whole (sym from) (whole-start s)) (r .calls) ∙ ap (layAll (layerShown s) (layerPixel s y) ks) from
+
+  -- After any calls, with each of the five layers at least once, there stands at each pixel of the main line the candidate of
+  -- greatest priority, or the backdrop where there is none;
+  pub calls-greatest-on-main : testsOf s y true ≡ value tt → {m : Lines} (ks : List ℕ) → AllFive ks → Run ks m → (x : ℕ) → x < 256 →
+      Seen (λ k. layerCandidates s y k x .main) (backdropOf (getD (s .cgram) 0 0)) (getD (m .main) x noPixel)
+  calls-greatest-on-main t ks f r x h = rw (run-lays t ks r) (greatest-on-main ks f x h)
+
+  -- and so of the sub line.
+  pub calls-greatest-on-sub : testsOf s y true ≡ value tt → {m : Lines} (ks : List ℕ) → AllFive ks → Run ks m → (x : ℕ) → x < 256 →
+      Seen (λ k. layerCandidates s y k x .sub) (backdropOf (s .regs .coldata)) (getD (m .sub) x noPixel)
+  calls-greatest-on-sub t ks f r x h = rw (run-lays t ks r) (greatest-on-sub ks f x h)
+
+  -- So any two such runs end in the same lines.
+  pub any-calls : testsOf s y true ≡ value tt → {m n : Lines} (ks js : List ℕ) → AllFive ks → AllFive js → Run ks m → Run js n → m ≡ n
+  any-calls t ks js f g r q = run-lays t ks r ∙ any-order ks js f g ∙ sym (run-lays t js q)

@@ -1,12 +1,15 @@
 -- A row does not show the order of its laying: both lines, with the five layers laid over the backdrops in any order, each at
 -- least once, make the row.
 use Prim.Native.Nat.{ℕ, zero, suc}
-use mathlib.Core.Path.{_≡_, refl, ap}
+use mathlib.Core.Path.{_≡_, refl, ap, _∙_}
+use mathlib.Core.Bool.{true}
 use mathlib.Core.List.{List, [], _∷_, List·Memᴰ·head, List·Memᴰ·tail}
 use native.Mathlib.Omega.{arith}
+use Rattle.refusal.specs.Answer.{value}
+use Rattle.line.specs.declared.Lines.{Lines}
 use Rattle.composite.specs.Composite.{rowBytes}
-use Rattle.layers.specs.Layers.{Scene}
-use Rattle.layers.specs.Order.{AllFive, linesAfter, any-order}
+use Rattle.layers.specs.Layers.{Scene, testsOf}
+use Rattle.layers.specs.Order.{AllFive, linesAfter, any-order, Run, run-lays}
 use Rattle.renderer.specs.Renderer.{rowOf}
 
 -- the order in which a row is drawn has all five
@@ -22,3 +25,8 @@ all-five (suc (suc (suc (suc (suc k))))) h = absurd (omega arith)
 pub row-of-any-order : (s : Scene) (y : ℕ) (ks : List ℕ) → AllFive ks → rowBytes (s .regs) (linesAfter s y ks) ≡ rowOf s y
 unfolding rowOf
 row-of-any-order s y ks m = ap (rowBytes (s .regs)) (any-order s y ks (0 ∷ 1 ∷ 2 ∷ 3 ∷ 4 ∷ []) m all-five)
+
+-- and so do the lines that any calls of `render_layer` leave, with each of the five layers at least once
+pub row-of-any-calls : (s : Scene) (y : ℕ) → testsOf s y true ≡ value tt → {m : Lines} (ks : List ℕ) → AllFive ks → Run s y ks m →
+    rowBytes (s .regs) m ≡ rowOf s y
+row-of-any-calls s y t ks f r = ap (rowBytes (s .regs)) (run-lays s y t ks r) ∙ row-of-any-order s y ks f
