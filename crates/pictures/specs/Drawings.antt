@@ -2,17 +2,18 @@
 -- row drawn again shows its last drawing.
 use Prim.Native.Nat.{ℕ, _<_}
 use mathlib.Core.Path.{_≡_, refl, sym, ap, _∙_}
-use mathlib.Core.Bool.{Bool, true, false, cond}
+use mathlib.Core.Bool.{Bool, true, false, cond, false≢true}
 use mathlib.Core.List.{List, [], _∷_, _++_, List·Memᴰ, List·Memᴰ·head, List·Memᴰ·tail, List·Memᴰ·cases-cons, List·Memᴰ·not-nil}
 use mathlib.Core.Logic.{⊎-elim}
 use native.Mathlib.Omega.{arith}
 use lib.Dec.{eqb, ltb}
 use lib.ListN.{length}
 use borrow.Author.Tests.{eqb-true, eqb-false, eq-eqb, ltb-true}
-use Rattle.refusal.specs.Answer.{Answer, value, provided, _andThen_, Outcome, outcome}
+use Rattle.refusal.specs.Answer.{Answer, value, refused, Outcome, outcome}
 use Rattle.refusal.specs.declared.Verdict.{Verdict}
 use Rattle.refusal.specs.Verdicts.{verdictMeans}
 use Rattle.lists.specs.Each.{Each}
+use Rattle.lists.specs.Keep.{keep, keep-yes, kept-in, in-kept}
 use Rattle.layers.specs.Layers.{Scene}
 use Rattle.renderer.specs.Renderer.{rowOf, length-row, withRow, testsOf, pictureOutcome}
 use Rattle.pictures.specs.Pictures.{rowPart}
@@ -119,44 +120,85 @@ pub drawn-again : (ds : List Drawing) (d : Drawing) (p : List ℕ) → Whole p �
     rowPart (drawAll (ds ++ d ∷ []) p) (d .row) ≡ bytesOf d
 drawn-again ds d p w r h = last-shows (ds ++ d ∷ []) p w r (d .row) h ∙ ends ds d (rowPart p (d .row))
 
--- The same of calls: a run of calls of `render_into_picture` with the drawings ds. Each takes the picture that the one before
--- left, and enters by its contract alone.
+-- The same of calls of `render_into_picture` with any drawings ds: each takes the picture that the one before left, and enters
+-- by its contract alone.
 pub data Calls : List ℕ → List Drawing → List ℕ → Type 0 where
   none : {p : List ℕ} → Calls p [] p
   call : {p q : List ℕ} {d : Drawing} {ds : List Drawing} (v : Verdict) (after : List ℕ) →
       _≡_ {A = Outcome Unit (List ℕ)} (record { said = verdictMeans v; left = after }) (pictureOutcome (d .scene) (d .row) p) →
       Calls after ds q → Calls p (d ∷ ds) q
 
+abbrev pub accepts : Answer Unit → Bool
+accepts (value _) = true
+accepts (refused n) = false
+
 -- the scene and the row are not refused
-abbrev pub Drawable : Drawing → Type 0
-Drawable d = testsOf (d .scene) (d .row) true ≡ value tt
+abbrev pub drawable : Drawing → Bool
+drawable d = accepts (testsOf (d .scene) (d .row) true)
 
--- so the first of its tests was passed
-first-passed : (t : Bool) (n : ℕ) (a b : Answer Unit) → (provided t n a andThen b) ≡ value tt → t ≡ true
-first-passed true n a b e = refl
-first-passed false n a b e = let z : _≡_ {A = ℕ} 0 1 = cc in absurd (omega arith)
+-- what is drawn of ds: a call that is refused draws nothing
+abbrev pub accepted : List Drawing → List Drawing
+accepted ds = keep drawable ds
 
-row-below : (d : Drawing) → Drawable d → d .row < 224
-row-below d e = ltb-true (d .row) 224 (first-passed (ltb (d .row) 224) 1 _ _ e)
+row-below : (d : Drawing) → drawable d ≡ true → d .row < 224
+row-below d e = by-test (ltb (d .row) 224) refl
+  where
+    by-test : (t : Bool) → ltb (d .row) 224 ≡ t → d .row < 224
+    by-test true f = ltb-true (d .row) 224 f
+    by-test false f = absurd (false≢true (rw f at e))
 
-rows-below : (ds : List Drawing) → Each Drawable ds → Rows ds
-rows-below [] e = tt
-rows-below (d ∷ ds) e = (row-below d (e .0), rows-below ds (e .1))
+rows-below : (ds : List Drawing) → Rows (accepted ds)
+unfolding keep
+rows-below [] = tt
+rows-below (d ∷ ds) = by-test (drawable d) refl (rows-below ds)
+  where
+    by-test : (t : Bool) → drawable d ≡ t → Rows (accepted ds) → Rows (cond t (d ∷ accepted ds) (accepted ds))
+    by-test true e r = (row-below d e, r)
+    by-test false e r = r
 
--- a run leaves the picture that its drawings leave
-calls-draw : {p q : List ℕ} (ds : List Drawing) → Whole p → Each Drawable ds → Calls p ds q → q ≡ drawAll ds p
-unfolding drawAll
-calls-draw [] w e none = refl
-calls-draw {p} (d ∷ ds) w e (call v after c r) =
-    let fine : testsOf (d .scene) (d .row) (eqb (length p) 172032) ≡ value tt =
-    ap (testsOf (d .scene) (d .row)) (eq-eqb (length p) 172032 w) ∙ e .0 in
-    let is : after ≡ withRow p (d .row) (bytesOf d) =
-    (λ i. c i .left) ∙ (λ i. outcome (fine i) tt (withRow p (d .row) (bytesOf d)) p .left) in
-    let whole : Whole after = ap (λ (l : List ℕ). length l) is ∙ whole-after d p w (row-below d (e .0)) in
-    calls-draw ds whole (e .1) r ∙ ap (drawAll ds) is
+within-accepted : (ds es : List Drawing) → Within ds es → Within (accepted ds) (accepted es)
+within-accepted ds es to d m = let k = kept-in drawable ds m in in-kept drawable es (k .1) (to d (k .0))
 
--- so the order of calls with different rows never shows
-pub any-calls : {p q r : List ℕ} (ds es : List Drawing) → Whole p → Each Drawable ds → Each Drawable es → DifferentRows ds →
-    Within ds es → Within es ds → Calls p ds q → Calls p es r → q ≡ r
-any-calls {p} ds es w d e one to back c r =
-    calls-draw ds w d c ∙ (any-drawing-order ds es p w (rows-below ds d) (rows-below es e) one to back ∙ sym (calls-draw es w e r))
+-- one call, and those after it
+module _ {q after : List ℕ} (p : List ℕ) (d : Drawing) (ds : List Drawing) (w : Whole p)
+    (later : Whole after → q ≡ drawAll (accepted ds) after) where
+  then-draw : (t : Answer Unit) → (accepts t ≡ true → d .row < 224) →
+      after ≡ outcome {A = Unit} t tt (withRow p (d .row) (bytesOf d)) p .left →
+      q ≡ drawAll (cond (accepts t) (d ∷ accepted ds) (accepted ds)) p
+  unfolding drawAll
+  then-draw (value u) b is =
+      later (ap (λ (l : List ℕ). length l) is ∙ whole-after d p w (b refl)) ∙ ap (drawAll (accepted ds)) is
+  then-draw (refused n) b is = later (ap (λ (l : List ℕ). length l) is ∙ w) ∙ ap (drawAll (accepted ds)) is
+
+-- so the calls leave what their drawings leave
+pub calls-draw : {p q : List ℕ} (ds : List Drawing) → Whole p → Calls p ds q → q ≡ drawAll (accepted ds) p
+unfolding drawAll keep
+calls-draw [] w none = refl
+calls-draw {p} (d ∷ ds) w (call v after c r) =
+    let test = testsOf (d .scene) (d .row) in
+    then-draw p d ds w (λ u. calls-draw ds u r) (test true) (row-below d)
+    ((λ i. c i .left) ∙ (λ i. outcome {A = Unit} (test (eq-eqb (length p) 172032 w i)) tt (withRow p (d .row) (bytesOf d)) p .left))
+
+-- Each row of the picture that calls leave shows its last drawing, or what it showed before where it was not drawn.
+pub calls-show : {p q : List ℕ} (ds : List Drawing) → Whole p → Calls p ds q → (y : ℕ) → y < 224 →
+    rowPart q y ≡ lastOf (accepted ds) y (rowPart p y)
+calls-show {p} ds w c y h =
+    ap (λ (l : List ℕ). rowPart l y) (calls-draw ds w c) ∙ last-shows (accepted ds) p w (rows-below ds) y h
+
+-- So a row that the last call draws again shows that drawing,
+pub calls-drawn-again : {p q : List ℕ} (ds : List Drawing) (d : Drawing) → Whole p → drawable d ≡ true → Calls p (ds ++ d ∷ []) q →
+    rowPart q (d .row) ≡ bytesOf d
+calls-drawn-again {p} ds d w e c =
+    calls-show (ds ++ d ∷ []) w c (d .row) (row-below d e)
+    ∙ (λ i. lastOf (keep-yes drawable ds d e i) (d .row) (rowPart p (d .row)))
+    ∙ ends (accepted ds) d (rowPart p (d .row))
+
+-- and the order of calls with different rows never shows.
+pub any-calls : {p q r : List ℕ} (ds es : List Drawing) → Whole p → DifferentRows ds → Within ds es → Within es ds →
+    Calls p ds q → Calls p es r → q ≡ r
+any-calls {p} ds es w one to back c r =
+    let apart : DifferentRows (accepted ds) = λ d e m n. one d e (kept-in drawable ds m .0) (kept-in drawable ds n .0) in
+    calls-draw ds w c
+    ∙ any-drawing-order (accepted ds) (accepted es) p w (rows-below ds) (rows-below es) apart
+    (within-accepted ds es to) (within-accepted es ds back)
+    ∙ sym (calls-draw es w r)
