@@ -53,7 +53,8 @@ pub data Calls : List Access → Machine → List Reply → Machine → Type 0 w
   thenCalls : (a : Access) (l : List Access) (m n o : Machine) (r : Reply) (rs : List Reply) →
       Called a m r n → Calls l n rs o → Calls (a ∷ l) m (r ∷ rs) o
 
-one-call : (a : Access) (m n : Machine) (r : Reply) → Called a m r n → (n ≡ step a m) × (r ≡ reply a m)
+-- a call does and says what the machine does and says
+pub one-call : (a : Access) (m n : Machine) (r : Reply) → Called a m r n → (n ≡ step a m) × (r ≡ reply a m)
 one-call a m n r (wroteAddress p v oam b e) = (λ i. e i .left, λ i. written (e i .said))
 one-call a m n r (wroteData p v entry exit b e) = (λ i. e i .left, λ i. written (e i .said))
 one-call a m n r (readData p oam b e) = (λ i. e i .left, λ i. byte (e i .said))
