@@ -18,19 +18,19 @@ use Rattle.sprites.specs.Sprites as sprites
 use Rattle.layers.specs.Layers.{Scene, bgShown, bgAt, spriteAt, layerShown, layerPixel, startLines}
 
 -- both lines have their 256 pixels
-abbrev pub Whole : Lines → Type 0
-Whole l = (length (l .main) ≡ 256) × (length (l .sub) ≡ 256)
+abbrev pub FullLines : Lines → Type 0
+FullLines l = (length (l .main) ≡ 256) × (length (l .sub) ≡ 256)
 
 -- where there is no pixel, a line is left
 bare : (shown : ℕ → Bool) (line : List LinePixel) → length line ≡ 256 → layLine (λ x. onScreen (shown x) none) line ≡ line
 bare shown line long = sym (by-getD 256 (λ x. _) line noPixel long (λ x h. refl))
 
 -- the backdrops are whole, and what is laid leaves whole lines
-pub whole-start : (s : Scene) → Whole (startLines s)
-whole-start s = (length-backdrop _, length-backdrop _)
+pub full-start : (s : Scene) → FullLines (startLines s)
+full-start s = (length-backdrop _, length-backdrop _)
 
-pub whole-laid : (shown : Shown) (row : ℕ → Candidate) (l : Lines) → Whole (layLines shown row l)
-whole-laid shown row l = (length-tab _ 256, length-tab _ 256)
+pub full-laid : (shown : Shown) (row : ℕ → Candidate) (l : Lines) → FullLines (layLines shown row l)
+full-laid shown row l = (length-tab _ 256, length-tab _ 256)
 
 module _ (s : Scene) (k : ℕ) where
   pub shown-low : k < 4 → bgShown s k ≡ layerShown s k
@@ -58,7 +58,7 @@ module _ (s : Scene) (k : ℕ) where
         λ i x. cond (sym high-number i) (bgAt s y k x) (cond (sym not-four i) (spriteAt s y x) none)
 
     -- so a number above 4 lays nothing
-    pub none-laid : 5 ≤ k → (l : Lines) → Whole l → layLines (layerShown s k) (layerPixel s y k) l ≡ l
+    pub none-laid : 5 ≤ k → (l : Lines) → FullLines l → layLines (layerShown s k) (layerPixel s y k) l ≡ l
     none-laid h l w =
         (λ i. layLines (layerShown s k) (sym (pixel-none h) i) l)
         ∙ (λ i. record { main = bare (onMain (layerShown s k)) (l .main) (w .0) i; sub = bare (onSub (layerShown s k)) (l .sub) (w .1) i })

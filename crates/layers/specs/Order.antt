@@ -17,7 +17,7 @@ use Rattle.laying.specs.Answers.{linesMean}
 use Rattle.laying.specs.Laying.{layLines}
 use Rattle.laying.specs.Order.{Seen, layAll, main-seen, sub-seen, order-never-shows}
 use Rattle.layers.specs.Layers.{Scene, layerShown, layerPixel, layerCandidates, layered, startLines, testsOf, backdropOutcome, layerOutcome}
-use Rattle.layers.specs.Numbers.{Whole, whole-start, whole-laid, none-laid}
+use Rattle.layers.specs.Numbers.{FullLines, full-start, full-laid, none-laid}
 use Rattle.layers.specs.Ties.{no-ties-on-main, no-ties-on-sub, five-on-main, five-on-sub}
 
 -- each of the five layers is among ks
@@ -64,7 +64,7 @@ module _ (s : Scene) (y : ℕ) where
   either (refused n) e = sym e
 
   -- on a row that is drawn a call leaves what laying its layer leaves; a number above 4 is refused, and lays nothing
-  call-lays : testsOf s y true ≡ value tt → (k : ℕ) (l : Lines) → Whole l →
+  call-lays : testsOf s y true ≡ value tt → (k : ℕ) (l : Lines) → FullLines l →
       layerOutcome s y k l .left ≡ layLines (layerShown s k) (layerPixel s y k) l
   call-lays t k l w = by-test (ltb k 5) refl
     where
@@ -74,15 +74,15 @@ module _ (s : Scene) (y : ℕ) where
       by-test false e = either (testsOf s y false) (none-laid s k y (ltb-false k 5 e) l w)
 
   -- so the calls leave what their layers leave
-  pub calls-lay : testsOf s y true ≡ value tt → {l m : Lines} (ks : List ℕ) → Whole l → Calls l ks m →
+  pub calls-lay : testsOf s y true ≡ value tt → {l m : Lines} (ks : List ℕ) → FullLines l → Calls l ks m →
       m ≡ layAll (layerShown s) (layerPixel s y) ks l
   unfolding layAll
   calls-lay t [] w none = refl
   calls-lay t {l} (k ∷ ks) w (call a c r) =
       let left : a .lines ≡ layerOutcome s y k l .left = λ i. c i .left in
       let laid = left ∙ call-lays t k l w in
-      let whole = subst Whole (sym laid) (whole-laid (layerShown s k) (layerPixel s y k) l) in
-      calls-lay t ks whole r ∙ ap (layAll (layerShown s) (layerPixel s y) ks) laid
+      let full = subst FullLines (sym laid) (full-laid (layerShown s k) (layerPixel s y k) l) in
+      calls-lay t ks full r ∙ ap (layAll (layerShown s) (layerPixel s y) ks) laid
 
   -- a run: calls from the lines that a call of `backdrop_lines` leaves, which enters by its contract too and was not refused
   pub record Run (ks : List ℕ) (m : Lines) : Type 0 where
@@ -106,7 +106,7 @@ module _ (s : Scene) (y : ℕ) where
   pub run-lays : testsOf s y true ≡ value tt → {m : Lines} (ks : List ℕ) → Run ks m → m ≡ linesAfter ks
   run-lays t ks r =
       let from = from-start (r .start) (r .begins) (r .fine) in
-      calls-lay t ks (subst Whole (sym from) (whole-start s)) (r .calls) ∙ ap (layAll (layerShown s) (layerPixel s y) ks) from
+      calls-lay t ks (subst FullLines (sym from) (full-start s)) (r .calls) ∙ ap (layAll (layerShown s) (layerPixel s y) ks) from
 
   -- After any calls, with each of the five layers at least once, there stands at each pixel of the main line the candidate of
   -- greatest priority, or the backdrop where there is none;

@@ -69,8 +69,8 @@ countTests counter inRange = provided (leb counter 16) 6 (provided inRange 7 (va
 abbrev pub drawTests : ℕ → ℕ → ℕ → ℕ → ℕ → Bool → Answer Unit
 drawTests y words colours bytes counter inRange = rowTests y words colours bytes andThen countTests counter inRange
 
-abbrev pub testsOf : List ℕ → List ℕ → List ℕ → PPURegisters → ℕ → Bool → Answer Unit
-testsOf v g oam r y inRange = drawTests y (length v) (length g) (length oam) (r .«mosaic_vcounter») inRange
+abbrev pub callTests : List ℕ → List ℕ → List ℕ → PPURegisters → ℕ → Bool → Answer Unit
+callTests v g oam r y inRange = drawTests y (length v) (length g) (length oam) (r .«mosaic_vcounter») inRange
 
 -- a sprite line with no pixel
 unfoldable pub emptyLine : List Candidate
@@ -79,14 +79,14 @@ emptyLine = tab 256 (λ x. none)
 -- the sprite line of row y
 abbrev pub spriteLineOutcome : List ℕ → List ℕ → List ℕ → PPURegisters → ℕ → Outcome Unit (List Candidate)
 spriteLineOutcome v g oam r y =
-    outcome (testsOf v g oam r y true) tt (tab 256 (spritePixel v g oam r y)) emptyLine
+    outcome (callTests v g oam r y true) tt (tab 256 (spritePixel v g oam r y)) emptyLine
 
 -- the candidates at column x of row y
 abbrev pub candidatesAnswer : List ℕ → List ℕ → List ℕ → PPURegisters → ℕ → ℕ → Answer Candidates
 candidatesAnswer v g oam r x y =
-    testsOf v g oam r y (ltb x 256) andThen value (candidatesOf (shownOf r) x (spritePixel v g oam r y x))
+    callTests v g oam r y (ltb x 256) andThen value (candidatesOf (shownOf r) x (spritePixel v g oam r y x))
 
 -- both lines after row y is laid over them
 abbrev pub linesOutcome : List ℕ → List ℕ → List ℕ → PPURegisters → ℕ → Lines → Outcome Unit Lines
 linesOutcome v g oam r y lines =
-    outcome (testsOf v g oam r y true) tt (layLines (shownOf r) (spritePixel v g oam r y) lines) lines
+    outcome (callTests v g oam r y true) tt (layLines (shownOf r) (spritePixel v g oam r y) lines) lines
