@@ -11,9 +11,19 @@ use Rattle.scene_input.specs.Input.{ReadAs}
 -- what was read passed
 pub read-fine : {tests : List ℕ → Answer Unit} {held : List ℕ → Type 0} {v : Verdict} → ReadAs tests held v → v ≡ Fine →
     ReadAs tests held Fine
-read-fine r e = record { bytes = r .bytes; said = sym (ap verdictMeans e) ∙ r .said; holds = λ p. r .holds (passed e) }
+read-fine r e = record {
+  bytes = r .bytes;
+  ended = r .ended;
+  said = λ more f. sym (ap verdictMeans e) ∙ r .said more f;
+  holds = λ more f p. r .holds more f (passed e);
+}
 
 -- what is said of the bytes that were read is said on
 pub read-told : {tests : List ℕ → Answer Unit} {held : List ℕ → Type 0} {v w : Verdict} → ReadAs tests held v →
     verdictMeans w ≡ verdictMeans v → ReadAs tests (λ bytes. Unit) w
-read-told r e = record { bytes = r .bytes; said = e ∙ r .said; holds = λ p. tt }
+read-told r e = record {
+  bytes = r .bytes;
+  ended = r .ended;
+  said = λ more f. e ∙ r .said more f;
+  holds = λ more f p. tt;
+}

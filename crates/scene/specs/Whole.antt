@@ -11,7 +11,7 @@ use Rattle.refusal.specs.Answer.{Answer, value, refused, provided, _andThen_}
 use Rattle.scene.specs.File.{countAt, sectionTests, endTests, valueTests, sceneTests}
 
 -- no refusal is a pass
-no-pass : {n : ℕ} → _≡_ {A = Answer Unit} (refused n) (value tt) → ⊥
+pub no-pass : {n : ℕ} → _≡_ {A = Answer Unit} (refused n) (value tt) → ⊥
 no-pass e = let z : _≡_ {A = ℕ} 0 1 = cc in omega arith
 
 -- where tests after one another pass, each does

@@ -16,7 +16,7 @@ ghost use mathlib.Core.Path.{_≡_};
 ghost use Prim.Native.Nat.{_*_, _≤_};
 ghost use lib.ListN.{length};
 ghost use Rattle.scene_bytes.specs.Bytes.{wordsOf};
-ghost use Rattle.scene_input.specs.Input.{ReadAs, SceneRead, SectionRead, fromEnd, fromVram, fromColours, fromSprites, fromRegisters, HeldVram, HeldColours, HeldSprites, HeldRegisters};
+ghost use Rattle.scene_input.specs.Input.{ReadAs, SceneRead, SectionRead, endOn, vramOn, coloursOn, spritesOn, registersOn, HeldVram, HeldColours, HeldSprites, HeldRegisters};
 
 // The bytes of a count.
 const COUNT_BYTES: usize = 4;
@@ -50,7 +50,7 @@ fn word_section(out: &mut [u16], body: &mut [u8], n: usize) -> Verdict
 
 // Sees that nothing follows the last section.
 fn end() -> Verdict
-    ensures { λ v. ⌜ ReadAs fromEnd (λ b. Unit) v ⌝ }
+    ensures { λ v. ⌜ ReadAs endOn (λ b. Unit) v ⌝ }
 {
     let mut byte = [0u8; 1];
     end_tested(moved(Way::Scene, &mut byte))
@@ -59,7 +59,7 @@ fn end() -> Verdict
 // Reads VRAM's section, and sees that it is the last.
 fn from_vram(vram: &mut [u16]) -> Verdict
     requires { ⌜ length (now vram) ≡ 32768 ⌝ }
-    ensures { λ v. ⌜ ReadAs fromVram (HeldVram (now (vram .exit))) v ⌝ }
+    ensures { λ v. ⌜ ReadAs vramOn (HeldVram (now (vram .exit))) v ⌝ }
 {
     let mut body = [0u8; 65536];
     match word_section(vram, &mut body, VRAM_WORDS) {
@@ -71,7 +71,7 @@ fn from_vram(vram: &mut [u16]) -> Verdict
 // Reads on from colour memory's section.
 fn from_colours(cgram: &mut [u16], vram: &mut [u16]) -> Verdict
     requires { ⌜ (length (now cgram) ≡ 256) × (length (now vram) ≡ 32768) ⌝ }
-    ensures { λ v. ⌜ ReadAs fromColours (HeldColours (now (cgram .exit)) (now (vram .exit))) v ⌝ }
+    ensures { λ v. ⌜ ReadAs coloursOn (HeldColours (now (cgram .exit)) (now (vram .exit))) v ⌝ }
 {
     let mut body = [0u8; 512];
     match word_section(cgram, &mut body, COLOUR_WORDS) {
@@ -83,7 +83,7 @@ fn from_colours(cgram: &mut [u16], vram: &mut [u16]) -> Verdict
 // From sprite memory's.
 fn from_sprites(oam: &mut [u8], cgram: &mut [u16], vram: &mut [u16]) -> Verdict
     requires { ⌜ (length (now oam) ≡ 544) × ((length (now cgram) ≡ 256) × (length (now vram) ≡ 32768)) ⌝ }
-    ensures { λ v. ⌜ ReadAs fromSprites (HeldSprites (now (oam .exit)) (now (cgram .exit)) (now (vram .exit))) v ⌝ }
+    ensures { λ v. ⌜ ReadAs spritesOn (HeldSprites (now (oam .exit)) (now (cgram .exit)) (now (vram .exit))) v ⌝ }
 {
     let mut count = [0u8; COUNT_BYTES];
     match section(&mut count, oam, OAM_SIZE) {
@@ -95,7 +95,7 @@ fn from_sprites(oam: &mut [u8], cgram: &mut [u16], vram: &mut [u16]) -> Verdict
 // All sections.
 fn sections(registers: &mut [u8], oam: &mut [u8], cgram: &mut [u16], vram: &mut [u16]) -> Verdict
     requires { ⌜ (length (now registers) ≡ 48) × ((length (now oam) ≡ 544) × ((length (now cgram) ≡ 256) × (length (now vram) ≡ 32768))) ⌝ }
-    ensures { λ v. ⌜ ReadAs fromRegisters (HeldRegisters (now (registers .exit)) (now (oam .exit)) (now (cgram .exit)) (now (vram .exit))) v ⌝ }
+    ensures { λ v. ⌜ ReadAs registersOn (HeldRegisters (now (registers .exit)) (now (oam .exit)) (now (cgram .exit)) (now (vram .exit))) v ⌝ }
 {
     let mut count = [0u8; COUNT_BYTES];
     match section(&mut count, registers, REGISTER_BYTES) {

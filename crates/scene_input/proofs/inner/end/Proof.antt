@@ -1,3 +1,4 @@
+use Rattle.scene_input.proofs.Reading.{read-end}
 use mathlib.Core.Path.{ap, _∙_}
 use lib.ListN.{take}
 use Rattle.scene.specs.File.{endTests}
@@ -8,7 +9,7 @@ use Rattle.scene_input.proofs.inner.end.Tie as tie
 returns : tie.Need-returns
 returns c =
     let m = c .before .before in
-    record { bytes = take (m .moved .result) (m .moved .last .1 .0); said = c .end-tested .ensures ∙ ap endTests (m .moved .ensures .1); holds = λ p. tt }
+    read-end (take (m .moved .result) (m .moved .last .1 .0)) (c .end-tested .ensures ∙ ap endTests (m .moved .ensures .1))
 
 pub end-spec : {M : Type 1} → statement M
 end-spec = tie.close (tie.spec (λ c. search needs) (λ c κs. search needs) (λ c κs. search needs) returns)

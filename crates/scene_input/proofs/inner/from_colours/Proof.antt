@@ -1,4 +1,4 @@
-use Rattle.scene_input.specs.Input.{fromVram}
+use Rattle.scene_input.specs.Input.{vramOn}
 use Rattle.scene_input.proofs.Reading.{read-then, read-stopped}
 use borrow.Author.Needs.{needs}
 use Rattle.scene_input.proofs.inner.from_colours.Statement.{statement}
@@ -8,10 +8,10 @@ returns : tie.Need-returns
 returns c =
     let r = c .before .before in
     let told = r .before .before in
-    read-then (told .before .before .before .before .before .word-section .ensures) fromVram (told .enum-told .given .1) (r .from-vram .ensures)
+    read-then (told .before .before .before .before .before .word-section .ensures) vramOn (told .enum-told .given .1) (r .from-vram .ensures)
 
 returns-2 : tie.Need-returns-2
-returns-2 c = let n = c .before in read-stopped (n .before .before .before .before .before .word-section .ensures) fromVram (n .k .given .1)
+returns-2 c = let n = c .before in read-stopped (n .before .before .before .before .before .word-section .ensures) vramOn (n .k .given .1)
 
 pub from-colours-spec : {M : Type 1} → statement M
 from-colours-spec =

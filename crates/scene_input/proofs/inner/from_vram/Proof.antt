@@ -1,4 +1,4 @@
-use Rattle.scene_input.specs.Input.{fromEnd}
+use Rattle.scene_input.specs.Input.{endOn}
 use Rattle.scene_input.proofs.Reading.{read-then, read-stopped}
 use borrow.Author.Needs.{needs}
 use Rattle.scene_input.proofs.inner.from_vram.Statement.{statement}
@@ -7,10 +7,10 @@ use Rattle.scene_input.proofs.inner.from_vram.Tie as tie
 returns : tie.Need-returns
 returns c =
     let told = c .before in
-    read-then (told .before .before .before .before .before .word-section .ensures) fromEnd (told .enum-told .given .1) (c .end .ensures)
+    read-then (told .before .before .before .before .before .word-section .ensures) endOn (told .enum-told .given .1) (c .end .ensures)
 
 returns-2 : tie.Need-returns-2
-returns-2 c = let n = c .before in read-stopped (n .before .before .before .before .before .word-section .ensures) fromEnd (n .k .given .1)
+returns-2 c = let n = c .before in read-stopped (n .before .before .before .before .before .word-section .ensures) endOn (n .k .given .1)
 
 pub from-vram-spec : {M : Type 1} → statement M
 from-vram-spec =

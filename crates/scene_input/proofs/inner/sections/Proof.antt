@@ -1,4 +1,4 @@
-use Rattle.scene_input.specs.Input.{fromSprites}
+use Rattle.scene_input.specs.Input.{spritesOn}
 use Rattle.scene_input.proofs.Reading.{read-then, read-stopped}
 use borrow.Author.Needs.{needs}
 use Rattle.scene_input.proofs.inner.sections.Statement.{statement}
@@ -8,10 +8,10 @@ returns : tie.Need-returns
 returns c =
     let r = c .before .before .before .before .before .before in
     let told = r .before .before .before .before in
-    read-then (told .before .before .before .before .before .section .ensures) fromSprites (told .enum-told .given .1) (r .from-sprites .ensures)
+    read-then (told .before .before .before .before .before .section .ensures) spritesOn (told .enum-told .given .1) (r .from-sprites .ensures)
 
 returns-2 : tie.Need-returns-2
-returns-2 c = let n = c .before in read-stopped (n .before .before .before .before .before .section .ensures) fromSprites (n .k .given .1)
+returns-2 c = let n = c .before in read-stopped (n .before .before .before .before .before .section .ensures) spritesOn (n .k .given .1)
 
 pub sections-spec : {M : Type 1} → statement M
 sections-spec =
