@@ -14,6 +14,7 @@ use say::inner::refusal_line;
 use scene_bytes::inner::registers;
 use scene_input::inner::input;
 ghost use mathlib.Core.Path.{_≡_};
+ghost use lib.Dec.{ltb};
 ghost use lib.ListN.{length};
 ghost use Rattle.refusal.specs.Answer.{refused};
 ghost use Rattle.refusal.specs.Numbers.{numberOf};
@@ -44,12 +45,16 @@ fn show(vram: &[u16], cgram: &[u16], oam: &[u8], body: &[u8]) -> usize
     walk(&mut row, vram, cgram, oam, r, at)
 }
 
-// Says that a plate was not taken whole.
-fn complain(taken: usize) {
+// Says that a plate was not taken whole, where it was not, and answers whether it said so.
+fn complain(taken: usize) -> bool
+    ensures { λ said. ⌜ said ≡ ltb taken 172047 ⌝ }
+{
     if taken < PLATE_BYTES {
         let mut text = *b"the plate could not be written\n";
         moved(Way::Trouble, &mut text);
+        return true;
     }
+    false
 }
 
 // Hands on the line of a refusal, and the refusal.
