@@ -14,7 +14,7 @@ use Rattle.registers.specs.declared.PPURegisters.{PPURegisters}
 use Rattle.registers.specs.Replaced.{withCounter}
 use Rattle.registers.specs.Scene.{Scene, scene}
 use Rattle.renderer.specs.Renderer.{rowOf, length-row}
-use Rattle.plate.specs.Frame.{counterAfter, counterAt, frameRow, plateHeader, rowsOf, plateOf, Part, Reached, Shown}
+use Rattle.plate.specs.Frame.{counterAfter, counterAt, frameRow, plateHeader, rowsOf, plateOf, Part, Reached, Taken}
 
 module _ (s : Scene) where
   pub length-frame-row : (y : ℕ) → length (frameRow s y) ≡ 768
@@ -125,6 +125,6 @@ module _ (s : Scene) {row₀ : List ℕ} where
       record { rows = 224; within = omega arith; come = w .come ∙ ap (λ (n : ℕ). 15 + n * 768) e; holds = w .is ∙ ap (drawnInto s row₀) e }
 
 -- the rows were drawn by the scene's registers
-pub shown-by : (s : Scene) {r : PPURegisters} {row : List ℕ} {n : ℕ} → r ≡ s .regs →
-    Reached (scene r (s .vram) (s .cgram) (s .oam)) row n → Shown s n
-shown-by s {r} {row} {n} e w = inr (row, subst (λ (q : PPURegisters). Reached (scene q (s .vram) (s .cgram) (s .oam)) row n) e w)
+pub taken-by : (s : Scene) {r : PPURegisters} {row : List ℕ} {n : ℕ} → r ≡ s .regs →
+    Reached (scene r (s .vram) (s .cgram) (s .oam)) row n → Taken s n
+taken-by s {r} {row} {n} e w = inr (row, subst (λ (q : PPURegisters). Reached (scene q (s .vram) (s .cgram) (s .oam)) row n) e w)

@@ -55,5 +55,5 @@ pub record Reached (s : Scene) (row : List ℕ) (at : ℕ) : Type 0 where
   pub holds : row ≡ frameRow s (min rows 223)
 
 -- what was taken of a plate: nothing, or its header and so many rows
-abbrev pub Shown : Scene → ℕ → Type 0
-Shown s n = (n ≡ 0) ⊎ ((row : List ℕ) × Reached s row n)
+abbrev pub Taken : Scene → ℕ → Type 0
+Taken s n = (n ≡ 0) ⊎ ((row : List ℕ) × Reached s row n)

@@ -24,7 +24,7 @@ ghost use Rattle.registers.specs.Scene.{scene};
 ghost use Rattle.scene_bytes.specs.Bytes.{registersOf};
 ghost use Rattle.scene.specs.File.{sceneTests};
 ghost use Rattle.scene_input.specs.Input.{ReadAs, SceneRead};
-ghost use Rattle.plate.specs.Frame.{Shown};
+ghost use Rattle.plate.specs.Frame.{Taken};
 
 // The bytes of a plate: its header and 224 rows of 768.
 const PLATE_BYTES: usize = 172047;
@@ -33,7 +33,7 @@ const PLATE_BYTES: usize = 172047;
 fn show(vram: &[u16], cgram: &[u16], oam: &[u8], body: &[u8]) -> usize
     requires { ⌜ (length (now cgram) ≡ 256) × ((length (now oam) ≡ 544) × (length (now body) ≡ 48)) ⌝ }
     requires { ⌜ SceneRead (now body) (now oam) (now cgram) (now vram) Fine ⌝ }
-    ensures { λ n. ⌜ Shown (scene (registersOf (now (body .entry))) (now (vram .entry)) (now (cgram .entry)) (now (oam .entry))) n ⌝ }
+    ensures { λ n. ⌜ Taken (scene (registersOf (now (body .entry))) (now (vram .entry)) (now (cgram .entry)) (now (oam .entry))) n ⌝ }
 {
     let r = registers(body);
     let mut first = header();

@@ -10,11 +10,11 @@ pub fn refusal_line(n: Refusal) -> Line
 {
     let k = n.number();
     if k < 10 {
-        let mut text = *b"refused 0\n\0";
+        let mut text = *b"refused _\n\0";
         text[8] = 48 + k;
         return Line { text, size: 10 };
     }
-    let mut text = *b"refused 00\n";
+    let mut text = *b"refused __\n";
     text[8] = 48 + k / 10;
     text[9] = 48 + k % 10;
     Line { text, size: 11 }

@@ -48,12 +48,12 @@ fn word_section(out: &mut [u16], body: &mut [u8], n: usize) -> Verdict
     }
 }
 
-// Sees that nothing follows the last section.
-fn end() -> Verdict
+// Sees that nothing follows the last section, by a lent byte.
+fn end(byte: &mut [u8]) -> Verdict
+    requires { ⌜ length (now byte) ≡ 1 ⌝ }
     ensures { λ v. ⌜ ReadAs endOn (λ b. Unit) v ⌝ }
 {
-    let mut byte = [0u8; 1];
-    end_tested(moved(Way::Scene, &mut byte))
+    end_tested(moved(Way::Scene, byte))
 }
 
 // Reads VRAM's section, and sees that it is the last.
@@ -62,8 +62,9 @@ fn from_vram(vram: &mut [u16]) -> Verdict
     ensures { λ v. ⌜ ReadAs vramOn (HeldVram (now (vram .exit))) v ⌝ }
 {
     let mut body = [0u8; 65536];
+    let mut byte = [0u8; 1];
     match word_section(vram, &mut body, VRAM_WORDS) {
-        Verdict::Fine => end(),
+        Verdict::Fine => end(&mut byte),
         Verdict::Refused(k) => Verdict::Refused(k),
     }
 }

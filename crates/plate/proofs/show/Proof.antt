@@ -2,7 +2,7 @@ use mathlib.Core.Path.{_≡_, refl, ap}
 use mathlib.Core.Logic.{inl, ⊎-elim}
 use native.Mathlib.Omega.{arith}
 use lib.ListN.{length}
-use Rattle.plate.proofs.Walk.{header-part, shown-by}
+use Rattle.plate.proofs.Walk.{header-part, taken-by}
 use borrow.Author.Needs.{needs}
 use Rattle.plate.proofs.show.Statement.{statement}
 use Rattle.plate.proofs.show.Tie as tie
@@ -25,7 +25,7 @@ returns-2 : tie.Need-returns-2
 returns-2 c =
     let w = c .before in
     let r = w .before .before .before .before .before .before .before in
-    shown-by _ (r .registers .ensures) (w .walk .ensures)
+    taken-by _ (r .registers .ensures) (w .walk .ensures)
 
 pub show-spec : {M : Type 1} → statement M
 show-spec =

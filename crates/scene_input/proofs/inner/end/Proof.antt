@@ -8,8 +8,8 @@ use Rattle.scene_input.proofs.inner.end.Tie as tie
 
 returns : tie.Need-returns
 returns c =
-    let m = c .before .before in
+    let m = c .before .before .before in
     read-end (take (m .moved .result) (m .moved .last .1 .0)) (c .end-tested .ensures ∙ ap endTests (m .moved .ensures .1))
 
 pub end-spec : {M : Type 1} → statement M
-end-spec = tie.close (tie.spec (λ c. search needs) (λ c κs. search needs) (λ c κs. search needs) returns)
+end-spec = tie.close (tie.spec (λ c κs. search needs) (λ c κs. search needs) (λ c. search needs) returns)

@@ -6,8 +6,9 @@ use Rattle.scene_input.proofs.inner.from_vram.Tie as tie
 
 returns : tie.Need-returns
 returns c =
-    let told = c .before in
-    read-then (told .before .before .before .before .before .word-section .ensures) endOn (told .enum-told .given .1) (c .end .ensures)
+    let r = c .before in
+    let told = r .before .before in
+    read-then (told .before .before .before .before .before .word-section .ensures) endOn (told .enum-told .given .1) (r .end .ensures)
 
 returns-2 : tie.Need-returns-2
 returns-2 c = let n = c .before in read-stopped (n .before .before .before .before .before .word-section .ensures) endOn (n .k .given .1)
@@ -18,6 +19,7 @@ from-vram-spec =
     (tie.spec
     (λ c. search needs)
     (λ c κs. search needs)
+    (λ c. search needs)
     (λ c. search needs)
     (λ c κs. search needs)
     (λ c. search needs)
