@@ -167,6 +167,10 @@ fn sprites() -> String {
             Renderer::new().render_sprites(&ppu, row)
         });
     }
+    ppu.mosaic_vcounter = 17;
+    out += &line("render_sprites counter 17", || {
+        Renderer::new().render_sprites(&ppu, 100)
+    });
     out
 }
 
