@@ -3,10 +3,11 @@ use Prim.Native.Nat.{ℕ}
 use mathlib.Core.Bool.{Bool, _&&_}
 use mathlib.Core.List.{List}
 use lib.ListN.{length}
-use lib.Dec.{ltb, leb, eqb}
-use Rattle.refusal.specs.Answer.{Answer, value, provided, _andThen_, Outcome, outcome}
+use lib.Dec.{ltb}
+use Rattle.refusal.specs.Answer.{Answer, value, _andThen_, Outcome, outcome}
 use Rattle.registers.specs.declared.PPURegisters.{PPURegisters}
 use Rattle.registers.specs.Bits.{bitOf}
+use Rattle.row_tests.specs.Tests.{bgTests}
 use Rattle.windows.specs.Windows.{bgWindow}
 use Rattle.line.specs.declared.Layer.{Layer}
 use Rattle.line.specs.declared.Lines.{Lines}
@@ -26,15 +27,6 @@ shownOf r p = record {
   «win_sub» = bitOf (r .tsw) (backgroundOf (p .layer));
   window = bgWindow r (backgroundOf (p .layer));
 }
-
--- a row above 223 is refused 1, VRAM of another length 2, colour memory 3, a counter above 16 6, another argument out of range 7
-abbrev pub bgTests : ℕ → ℕ → ℕ → ℕ → Bool → Answer Unit
-bgTests y words colours counter inRange =
-    provided (ltb y 224) 1
-    (provided (eqb words 32768) 2
-    (provided (eqb colours 256) 3
-    (provided (leb counter 16) 6
-    (provided inRange 7 (value tt)))))
 
 -- the layer is one of backgrounds 0 to 3
 abbrev pub isBackground : Layer → Bool

@@ -8,21 +8,18 @@ use laying::LinesAnswer;
 use line::Layer;
 use line::Lines;
 use line::inner::bg_index;
-use refusal::Refusal;
 use refusal::Verdict;
 use registers::PPURegisters;
 use registers::constants::BACKGROUNDS;
-use registers::constants::COLOUR_WORDS;
-use registers::constants::LARGEST_COUNTER;
-use registers::constants::SCREEN_HEIGHT;
 use registers::constants::SCREEN_WIDTH;
-use tiles::inner::VRAM_WORDS;
+use row_tests::inner::bg_tested;
 ghost use mathlib.Core.Path.{_≡_};
 ghost use mathlib.Core.Bool.{true, _&&_};
 ghost use Rattle.refusal.specs.Verdicts.{verdictMeans, Passed};
+ghost use Rattle.row_tests.specs.Tests.{bgTests};
 ghost use Rattle.laying.specs.Answers.{candidatesMean, linesMean};
 ghost use Rattle.bg_row.specs.Row.{Sound};
-ghost use Rattle.background.specs.Background.{bgTests, isBackground, candidatesAnswer, lineOutcome};
+ghost use Rattle.background.specs.Background.{isBackground, candidatesAnswer, lineOutcome};
 
 // The tests of both calls; `column` says that the column is in its range.
 fn tested(
@@ -35,24 +32,13 @@ fn tested(
 ) -> Verdict
     ensures { λ r. ⌜ (verdictMeans r ≡ bgTests y words colours counter (column && isBackground layer)) × (Passed r → Sound colours layer y × (column ≡ true)) ⌝ }
 {
-    if y >= SCREEN_HEIGHT {
-        return Verdict::Refused(Refusal::Row);
-    }
-    if words != VRAM_WORDS {
-        return Verdict::Refused(Refusal::Vram);
-    }
-    if colours != COLOUR_WORDS {
-        return Verdict::Refused(Refusal::Colour);
-    }
-    if counter > LARGEST_COUNTER {
-        return Verdict::Refused(Refusal::Counter);
-    }
-    if column {
-        if bg_index(layer) < BACKGROUNDS {
-            return Verdict::Fine;
-        }
-    }
-    Verdict::Refused(Refusal::Argument)
+    bg_tested(
+        y,
+        words,
+        colours,
+        counter,
+        column & (bg_index(layer) < BACKGROUNDS),
+    )
 }
 
 // The candidates of a background at column x of row y, on both screens.

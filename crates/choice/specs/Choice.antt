@@ -5,10 +5,11 @@ use mathlib.Core.Bool.{Bool, false, cond}
 use mathlib.Core.List.{List, [], _∷_, map}
 use lib.ListN.{length, take}
 use lib.Dec.{ltb, eqb}
-use Rattle.refusal.specs.Answer.{Answer, value, provided, Outcome, outcome}
+use Rattle.refusal.specs.Answer.{Outcome, outcome}
 use Rattle.lists.specs.Tab.{tab}
 use Rattle.lists.specs.Keep.{keep}
 use Rattle.lists.specs.Places.{places}
+use Rattle.row_tests.specs.Tests.{choiceTests}
 use Rattle.oam.specs.Sprites.{spriteOf, blankSprite}
 use Rattle.sprite_row.specs.SpriteRow.{inRange, tilesOf}
 use Rattle.choice.specs.declared.VisibleSprite.{VisibleSprite}
@@ -71,10 +72,7 @@ chosenOf oam row objsel oamadd interlace = choiceOf oam objsel (found oam row ob
 unfoldable pub noneChosen : Chosen
 noneChosen = record { sprites = places spriteLimit blankPlace []; count = 0; tiles = 0; «time_over» = false; «range_over» = false }
 
--- a row above 223 is refused 1, sprite memory of another length is refused 4
-abbrev pub choiceTests : ℕ → ℕ → Answer Unit
-choiceTests y bytes = provided (ltb y 224) 1 (provided (eqb bytes 544) 4 (value tt))
-
+-- what choosing for row y leaves
 abbrev pub choiceOutcome : List ℕ → ℕ → ℕ → ℕ → Bool → Outcome Unit Chosen
 choiceOutcome oam y objsel oamadd interlace =
     outcome (choiceTests y (length oam)) tt (chosenOf oam y objsel oamadd interlace) noneChosen

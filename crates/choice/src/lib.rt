@@ -1,16 +1,12 @@
 // The sprites chosen for a row, with what the console says of them. Follows oam.rs, with its names.
 pub mod inner;
 
-use oam::OAM_SIZE;
 use oam::Sprite;
-use refusal::Refusal;
 use refusal::Verdict;
-use registers::constants::SCREEN_HEIGHT;
+use row_tests::inner::choice_tested;
 ghost use mathlib.Core.Path.{_≡_};
-ghost use Prim.Native.Nat.{_<_};
-ghost use Rattle.refusal.specs.Verdicts.{verdictMeans, Passed};
 ghost use Rattle.choice.specs.Answers.{choiceMeans};
-ghost use Rattle.choice.specs.Choice.{choiceTests, choiceOutcome};
+ghost use Rattle.choice.specs.Choice.{choiceOutcome};
 
 // A sprite with its number in sprite memory.
 pub struct VisibleSprite {
@@ -34,20 +30,6 @@ pub struct ChoiceAnswer {
     pub chosen: Chosen,
 }
 
-// The tests: the row, then sprite memory's length.
-fn tested(y: usize, oam_len: usize) -> Verdict
-    ensures { λ r. ⌜ (verdictMeans r ≡ choiceTests y «oam_len») × (Passed r → (y < 224) × («oam_len» ≡ 544)) ⌝ }
-{
-    if y >= SCREEN_HEIGHT {
-        return Verdict::Refused(Refusal::Row);
-    }
-    if oam_len == OAM_SIZE {
-        Verdict::Fine
-    } else {
-        Verdict::Refused(Refusal::Oam)
-    }
-}
-
 // The sprites chosen for row y: in search order, the first 32 of those that the row meets and that
 // are not passed over.
 pub fn eval_sprites_for_scanline(
@@ -59,7 +41,7 @@ pub fn eval_sprites_for_scanline(
 ) -> ChoiceAnswer
     ensures { λ r. ⌜ choiceMeans r ≡ choiceOutcome (now (oam .entry)) y objsel oamadd «obj_interlace» ⌝ }
 {
-    match tested(y, oam.len()) {
+    match choice_tested(y, oam.len()) {
         Verdict::Fine => {
             let chosen = inner::choose(oam, y as u8, objsel, oamadd, obj_interlace);
             ChoiceAnswer {

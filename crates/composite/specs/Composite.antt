@@ -1,13 +1,14 @@
 -- The composite of both lines into a row's bytes.
 use Prim.Native.Nat.{ℕ, _/_, _%_}
-use mathlib.Core.Bool.{Bool, cond}
+use mathlib.Core.Bool.{cond}
 use mathlib.Core.List.{List}
 use lib.ListN.{length, getD}
-use lib.Dec.{leb, eqb}
-use Rattle.refusal.specs.Answer.{Answer, value, provided, Outcome, outcome}
+use lib.Dec.{eqb}
+use Rattle.refusal.specs.Answer.{Outcome, outcome}
 use Rattle.lists.specs.Tab.{tab}
 use Rattle.registers.specs.declared.PPURegisters.{PPURegisters}
 use Rattle.registers.specs.Screen as screen
+use Rattle.row_tests.specs.Tests.{lentTests}
 use Rattle.window.specs.Window.{masked}
 use Rattle.windows.specs.Windows.{colourWindow}
 use Rattle.colour.specs.declared.Rgb.{Rgb}
@@ -35,10 +36,6 @@ blackRow = tab 768 (λ i. 0)
 -- the row; forced blank writes a black one
 unfoldable pub rowBytes : PPURegisters → Lines → List ℕ
 rowBytes r lines = cond (screen.blanked r) blackRow (tab 768 (byteAt (colourAt r lines) (screen.brightnessOf r)))
-
--- a lent row or picture of another length is refused 5, a counter above 16 6
-abbrev pub lentTests : Bool → ℕ → Answer Unit
-lentTests lent counter = provided lent 5 (provided (leb counter 16) 6 (value tt))
 
 -- what the composite leaves of a lent row
 abbrev pub compositeOutcome : List ℕ → Lines → PPURegisters → Outcome Unit (List ℕ)

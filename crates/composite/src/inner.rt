@@ -9,34 +9,17 @@ use laying::inner::mask;
 use line::LinePixel;
 use line::Lines;
 use line::inner::pick_color;
-use refusal::Refusal;
-use refusal::Verdict;
 use registers::PPURegisters;
-use registers::constants::LARGEST_COUNTER;
 use registers::constants::SCREEN_WIDTH;
 use windows::inner::color_window;
 ghost use mathlib.Core.Path.{_≡_};
-ghost use mathlib.Core.Bool.{true, false, cond};
+ghost use mathlib.Core.Bool.{false, cond};
 ghost use Prim.Native.Nat.{_<_};
 ghost use lib.ListN.{length, getD};
-ghost use Rattle.refusal.specs.Verdicts.{verdictMeans, Passed};
 ghost use Rattle.lists.specs.Tab.{tab};
 ghost use Rattle.line.specs.Pixels.{noPixel};
 ghost use Rattle.blend.specs.Blend.{region, colourOf};
-ghost use Rattle.composite.specs.Composite.{byteAt, blackRow, rowBytes, lentTests};
-
-// The tests of a lent row or picture; `lent` says that it has its length.
-pub fn lent_tested(lent: bool, counter: u8) -> Verdict
-    ensures { λ v. ⌜ (verdictMeans v ≡ lentTests lent counter) × (Passed v → (lent ≡ true)) ⌝ }
-{
-    if lent {
-        if counter <= LARGEST_COUNTER {
-            return Verdict::Fine;
-        }
-        return Verdict::Refused(Refusal::Counter);
-    }
-    Verdict::Refused(Refusal::Lent)
-}
+ghost use Rattle.composite.specs.Composite.{byteAt, blackRow, rowBytes};
 
 // The colours of a row, before brightness.
 fn mix(lines: Lines, s: ColorMath, inside: [bool; 256]) -> [u16; 256]

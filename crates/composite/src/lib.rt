@@ -5,6 +5,7 @@ pub mod inner;
 use line::Lines;
 use refusal::Verdict;
 use registers::PPURegisters;
+use row_tests::inner::lent_tested;
 ghost use mathlib.Core.Path.{_≡_};
 ghost use Rattle.refusal.specs.Verdicts.{verdictMeans};
 ghost use Rattle.composite.specs.Composite.{compositeOutcome};
@@ -17,7 +18,7 @@ pub fn composite_line(row: &mut [u8], lines: Lines, r: PPURegisters) -> Verdict
     ensures { λ v. ⌜ record { said = verdictMeans v; left = now (row .exit) } ≡ compositeOutcome (now (row .entry)) lines r ⌝ }
 {
     let lent = row.len() == ROW_BYTES;
-    match inner::lent_tested(lent, r.mosaic_vcounter) {
+    match lent_tested(lent, r.mosaic_vcounter) {
         Verdict::Fine => {
             inner::composite(row, lines, r);
             Verdict::Fine

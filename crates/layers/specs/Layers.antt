@@ -1,12 +1,13 @@
 -- The layers of a scene by their numbers: BG1 to BG4 are 0 to 3, the sprites 4.
 use Prim.Native.Nat.{ℕ}
-use mathlib.Core.Bool.{Bool, cond, _&&_}
+use mathlib.Core.Bool.{cond, _&&_}
 use mathlib.Core.List.{List}
 use lib.ListN.{length, getD}
 use lib.Dec.{ltb, eqb}
-use Rattle.refusal.specs.Answer.{Answer, value, provided, _andThen_, Outcome, outcome}
+use Rattle.refusal.specs.Answer.{Answer, value, _andThen_, Outcome, outcome}
 use Rattle.registers.specs.declared.PPURegisters.{PPURegisters}
 pub use Rattle.registers.specs.Scene.{Scene, scene}
+use Rattle.row_tests.specs.Tests.{colourTest, layerTests}
 use Rattle.line.specs.declared.Candidate.{Candidate}
 use Rattle.line.specs.declared.Lines.{Lines}
 use Rattle.line.specs.Pixels.{none, backdropLines}
@@ -50,24 +51,15 @@ module _ (s : Scene) where
   abbrev pub startLines : Lines
   startLines = backdropLines (getD (s .cgram) 0 0) (s .regs .coldata)
 
--- a row above 223 is refused 1, VRAM of another length 2, colour memory 3, sprite memory 4, a counter above 16 6, another
--- argument out of range 7
-abbrev pub layerTests : ℕ → ℕ → ℕ → ℕ → ℕ → Bool → Answer Unit
-layerTests y words colours bytes counter inRange = sprites.drawTests y words colours bytes counter inRange
-
-abbrev pub testsOf : Scene → ℕ → Bool → Answer Unit
-testsOf s y inRange =
-    layerTests y (length (s .vram)) (length (s .cgram)) (length (s .oam)) (s .regs .«mosaic_vcounter») inRange
-
 -- the lines before any layer is laid
 abbrev pub backdropOutcome : List ℕ → PPURegisters → Outcome Unit Lines
 backdropOutcome g r =
-    outcome (provided (eqb (length g) 256) 3 (value tt)) tt (backdropLines (getD g 0 0) (r .coldata)) (backdropLines 0 0)
+    outcome (colourTest (length g)) tt (backdropLines (getD g 0 0) (r .coldata)) (backdropLines 0 0)
 
 -- the candidates of layer k at column x of row y
 abbrev pub candidatesAnswer : Scene → ℕ → ℕ → ℕ → Answer Candidates
-candidatesAnswer s x y k = testsOf s y (ltb x 256 && ltb k 5) andThen value (layerCandidates s y k x)
+candidatesAnswer s x y k = layerTests s y (ltb x 256 && ltb k 5) andThen value (layerCandidates s y k x)
 
 -- both lines after layer k of row y is laid over them
 abbrev pub layerOutcome : Scene → ℕ → ℕ → Lines → Outcome Unit Lines
-layerOutcome s y k lines = outcome (testsOf s y (ltb k 5)) tt (layered s y k lines) lines
+layerOutcome s y k lines = outcome (layerTests s y (ltb k 5)) tt (layered s y k lines) lines

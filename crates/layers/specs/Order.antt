@@ -10,13 +10,14 @@ use lib.ListN.{length, getD}
 use borrow.Author.Tests.{ltb-false}
 use Rattle.refusal.specs.Answer.{Answer, value, refused, provided, outcome}
 use Rattle.refusal.specs.Verdicts.{verdictMeans}
+use Rattle.row_tests.specs.Tests.{layerTests}
 use Rattle.line.specs.declared.Lines.{Lines}
 use Rattle.line.specs.Pixels.{noPixel, backdropOf, backdropLines}
 use Rattle.laying.specs.declared.LinesAnswer.{LinesAnswer}
 use Rattle.laying.specs.Answers.{linesMean}
 use Rattle.laying.specs.Laying.{layLines}
 use Rattle.laying.specs.Order.{Seen, layAll, main-seen, sub-seen, order-never-shows}
-use Rattle.layers.specs.Layers.{Scene, layerShown, layerPixel, layerCandidates, layered, startLines, testsOf, backdropOutcome, layerOutcome}
+use Rattle.layers.specs.Layers.{Scene, layerShown, layerPixel, layerCandidates, layered, startLines, backdropOutcome, layerOutcome}
 use Rattle.layers.specs.Numbers.{FullLines, full-start, full-laid, none-laid}
 use Rattle.layers.specs.Ties.{no-ties-on-main, no-ties-on-sub, five-on-main, five-on-sub}
 
@@ -64,17 +65,17 @@ module _ (s : Scene) (y : ℕ) where
   either (refused n) e = sym e
 
   -- on a row that is drawn a call leaves what laying its layer leaves; a number above 4 is refused, and lays nothing
-  call-lays : testsOf s y true ≡ value tt → (k : ℕ) (l : Lines) → FullLines l →
+  call-lays : layerTests s y true ≡ value tt → (k : ℕ) (l : Lines) → FullLines l →
       layerOutcome s y k l .left ≡ layLines (layerShown s k) (layerPixel s y k) l
   call-lays t k l w = by-test (ltb k 5) refl
     where
       by-test : (b : Bool) → ltb k 5 ≡ b →
-          outcome {A = Unit} (testsOf s y b) tt (layered s y k l) l .left ≡ layLines (layerShown s k) (layerPixel s y k) l
+          outcome {A = Unit} (layerTests s y b) tt (layered s y k l) l .left ≡ layLines (layerShown s k) (layerPixel s y k) l
       by-test true e = λ i. outcome {A = Unit} (t i) tt (layered s y k l) l .left
-      by-test false e = either (testsOf s y false) (none-laid s k y (ltb-false k 5 e) l w)
+      by-test false e = either (layerTests s y false) (none-laid s k y (ltb-false k 5 e) l w)
 
   -- so the calls leave what their layers leave
-  pub calls-lay : testsOf s y true ≡ value tt → {l m : Lines} (ks : List ℕ) → FullLines l → Calls l ks m →
+  pub calls-lay : layerTests s y true ≡ value tt → {l m : Lines} (ks : List ℕ) → FullLines l → Calls l ks m →
       m ≡ layAll (layerShown s) (layerPixel s y) ks l
   unfolding layAll
   calls-lay t [] w none = refl
@@ -103,22 +104,22 @@ module _ (s : Scene) (y : ℕ) where
           let z : _≡_ {A = ℕ} 0 1 = cc in
           absurd (omega arith)
 
-  pub run-lays : testsOf s y true ≡ value tt → {m : Lines} (ks : List ℕ) → Run ks m → m ≡ linesAfter ks
+  pub run-lays : layerTests s y true ≡ value tt → {m : Lines} (ks : List ℕ) → Run ks m → m ≡ linesAfter ks
   run-lays t ks r =
       let from = from-start (r .start) (r .begins) (r .fine) in
       calls-lay t ks (subst FullLines (sym from) (full-start s)) (r .calls) ∙ ap (layAll (layerShown s) (layerPixel s y) ks) from
 
   -- After any calls, with each of the five layers at least once, there stands at each pixel of the main line the candidate of
   -- greatest priority, or the backdrop where there is none;
-  pub calls-greatest-on-main : testsOf s y true ≡ value tt → {m : Lines} (ks : List ℕ) → AllFive ks → Run ks m → (x : ℕ) → x < 256 →
+  pub calls-greatest-on-main : layerTests s y true ≡ value tt → {m : Lines} (ks : List ℕ) → AllFive ks → Run ks m → (x : ℕ) → x < 256 →
       Seen (λ k. layerCandidates s y k x .main) (backdropOf (getD (s .cgram) 0 0)) (getD (m .main) x noPixel)
   calls-greatest-on-main t ks f r x h = rw (run-lays t ks r) (greatest-on-main ks f x h)
 
   -- and so of the sub line.
-  pub calls-greatest-on-sub : testsOf s y true ≡ value tt → {m : Lines} (ks : List ℕ) → AllFive ks → Run ks m → (x : ℕ) → x < 256 →
+  pub calls-greatest-on-sub : layerTests s y true ≡ value tt → {m : Lines} (ks : List ℕ) → AllFive ks → Run ks m → (x : ℕ) → x < 256 →
       Seen (λ k. layerCandidates s y k x .sub) (backdropOf (s .regs .coldata)) (getD (m .sub) x noPixel)
   calls-greatest-on-sub t ks f r x h = rw (run-lays t ks r) (greatest-on-sub ks f x h)
 
   -- So any two such runs end in the same lines.
-  pub any-calls : testsOf s y true ≡ value tt → {m n : Lines} (ks js : List ℕ) → AllFive ks → AllFive js → Run ks m → Run js n → m ≡ n
+  pub any-calls : layerTests s y true ≡ value tt → {m n : Lines} (ks js : List ℕ) → AllFive ks → AllFive js → Run ks m → Run js n → m ≡ n
   any-calls t ks js f g r q = run-lays t ks r ∙ any-order ks js f g ∙ sym (run-lays t js q)

@@ -7,11 +7,11 @@ use registers::constants::BACKGROUNDS;
 ghost use mathlib.Core.Path.{_≡_};
 ghost use Prim.Native.Nat.{_<_};
 ghost use lib.ListN.{length};
+ghost use Rattle.row_tests.specs.Tests.{SceneTested};
 ghost use Rattle.modes.specs.Modes.{paramsOf};
 ghost use Rattle.laying.specs.Laying.{layLines};
 ghost use Rattle.bg_row.specs.Row.{bgPixel};
 ghost use Rattle.background.specs.Background.{shownOf};
-ghost use Rattle.sprites.specs.Sprites.{Sound};
 ghost use Rattle.layers.specs.Layers.{scene, layerCandidates, layered};
 
 // Both lines after background bg is laid. Where neither screen lights it, nothing is drawn.
@@ -36,7 +36,7 @@ pub fn lay(
     y: usize,
     layer: usize,
 ) -> Lines
-    requires { ⌜ Sound (length (now cgram)) (length (now oam)) y × (layer < 5) ⌝ }
+    requires { ⌜ SceneTested (length (now cgram)) (length (now oam)) y × (layer < 5) ⌝ }
     ensures { λ o. ⌜ o ≡ layered (scene r (now (vram .entry)) (now (cgram .entry)) (now (oam .entry))) y layer lines ⌝ }
 {
     if layer < BACKGROUNDS {
@@ -55,7 +55,7 @@ pub fn candidates(
     y: usize,
     layer: usize,
 ) -> Candidates
-    requires { ⌜ Sound (length (now cgram)) (length (now oam)) y × ((x < 256) × (layer < 5)) ⌝ }
+    requires { ⌜ SceneTested (length (now cgram)) (length (now oam)) y × ((x < 256) × (layer < 5)) ⌝ }
     ensures { λ o. ⌜ o ≡ layerCandidates (scene r (now (vram .entry)) (now (cgram .entry)) (now (oam .entry))) y layer x ⌝ }
 {
     if layer < BACKGROUNDS {

@@ -11,6 +11,7 @@ use registers::PPURegisters;
 use registers::constants::COLOUR_WORDS;
 use registers::constants::LAYERS;
 use registers::constants::SCREEN_WIDTH;
+use row_tests::inner::layer_tested;
 ghost use mathlib.Core.Path.{_≡_};
 ghost use Rattle.laying.specs.Answers.{candidatesMean, linesMean};
 ghost use Rattle.layers.specs.Layers.{scene, backdropOutcome, candidatesAnswer, layerOutcome};
@@ -46,7 +47,7 @@ pub fn render_layer(
     ensures { λ a. ⌜ linesMean a ≡ layerOutcome (scene r (now (vram .entry)) (now (cgram .entry)) (now (oam .entry))) y layer lines ⌝ }
 {
     let in_range = layer < LAYERS;
-    match sprites::inner::tested(
+    match layer_tested(
         y,
         vram.len(),
         cgram.len(),
@@ -81,7 +82,7 @@ pub fn layer_candidates(
     ensures { λ a. ⌜ candidatesMean a ≡ candidatesAnswer (scene r (now (vram .entry)) (now (cgram .entry)) (now (oam .entry))) x y layer ⌝ }
 {
     let in_range = (x < SCREEN_WIDTH) & (layer < LAYERS);
-    match sprites::inner::tested(
+    match layer_tested(
         y,
         vram.len(),
         cgram.len(),

@@ -14,8 +14,9 @@ use Rattle.refusal.specs.declared.Verdict.{Verdict}
 use Rattle.refusal.specs.Verdicts.{verdictMeans}
 use Rattle.lists.specs.Each.{Each}
 use Rattle.lists.specs.Keep.{keep, keep-yes, kept-in, in-kept}
+use Rattle.row_tests.specs.Tests.{drawTests}
 use Rattle.layers.specs.Layers.{Scene}
-use Rattle.renderer.specs.Renderer.{rowOf, length-row, withRow, testsOf, pictureOutcome}
+use Rattle.renderer.specs.Renderer.{rowOf, length-row, withRow, pictureOutcome}
 use Rattle.pictures.specs.Pictures.{rowPart}
 use Rattle.pictures.specs.Parts.{Whole, one-picture, whole-with, own-row, other-row}
 
@@ -134,7 +135,7 @@ accepts (refused n) = false
 
 -- the scene and the row are not refused
 abbrev pub drawable : Drawing → Bool
-drawable d = accepts (testsOf (d .scene) (d .row) true)
+drawable d = accepts (drawTests (d .scene) (d .row) true)
 
 -- what is drawn of ds: a call that is refused draws nothing
 abbrev pub accepted : List Drawing → List Drawing
@@ -175,7 +176,7 @@ pub calls-draw : {p q : List ℕ} (ds : List Drawing) → Whole p → Calls p ds
 unfolding drawAll keep
 calls-draw [] w none = refl
 calls-draw {p} (d ∷ ds) w (call v after c r) =
-    let test = testsOf (d .scene) (d .row) in
+    let test = drawTests (d .scene) (d .row) in
     then-draw p d ds w (λ u. calls-draw ds u r) (test true) (row-below d)
     ((λ i. c i .left) ∙ (λ i. outcome {A = Unit} (test (eq-eqb (length p) 172032 w i)) tt (withRow p (d .row) (bytesOf d)) p .left))
 

@@ -1,23 +1,20 @@
 -- Two pictures and the chosen one's row.
 use Prim.Native.Nat.{ℕ, _+_, _*_, _<_}
 use mathlib.Core.Path.{_≡_}
-use mathlib.Core.Bool.{cond}
+use mathlib.Core.Bool.{cond, _&&_}
 use mathlib.Core.List.{List, []}
 use lib.ListN.{length, take, drop}
 use lib.Dec.{ltb, eqb}
 use denote.Ref.{RefT}
-use Rattle.refusal.specs.Answer.{Answer, value, refused, provided}
+use Rattle.refusal.specs.Answer.{Answer, value, refused}
+use Rattle.row_tests.specs.Tests.{partTests}
 
 -- a row above 223 is refused 1, a picture of another length 5, a choice above 1 7
 abbrev pub pictureTests : ℕ → ℕ → ℕ → ℕ → Answer Unit
-pictureTests first second choice y =
-    provided (ltb y 224) 1
-    (provided (eqb first 172032) 5
-    (provided (eqb second 172032) 5
-    (provided (ltb choice 2) 7 (value tt))))
+pictureTests first second choice y = partTests y (eqb first 172032 && eqb second 172032) (ltb choice 2)
 
 -- what they leave for the work
-pub record Sound (first second choice y : ℕ) : Type 0 where
+pub record PicturesTested (first second choice y : ℕ) : Type 0 where
   pub row : y < 224
   pub whole : first ≡ 172032
   pub whole-2 : second ≡ 172032

@@ -1,35 +1,23 @@
 // Two lent pictures, as the Rust's front and back buffers: the chosen one's row, handed back as its
 // own part.
 use composite::ROW_BYTES;
-use refusal::Refusal;
 use refusal::Verdict;
-use registers::constants::SCREEN_HEIGHT;
 use renderer::PICTURE_BYTES;
+use row_tests::inner::part_tested;
 ghost use mathlib.Core.Path.{_≡_};
 ghost use lib.ListN.{length};
 ghost use Rattle.refusal.specs.Verdicts.{verdictMeans, Passed};
-ghost use Rattle.pictures.specs.Pictures.{Sound, pictureTests, lent, pictureRow};
+ghost use Rattle.pictures.specs.Pictures.{PicturesTested, pictureTests, lent, pictureRow};
 
 // The pictures to choose from.
 pub const PICTURES: usize = 2;
 
+// The tests of both calls.
 fn tested(first: usize, second: usize, choice: usize, y: usize) -> Verdict
-    ensures { λ v. ⌜ (verdictMeans v ≡ pictureTests first second choice y) × (Passed v → Sound first second choice y) ⌝ }
+    ensures { λ v. ⌜ (verdictMeans v ≡ pictureTests first second choice y) × (Passed v → PicturesTested first second choice y) ⌝ }
 {
-    if y >= SCREEN_HEIGHT {
-        return Verdict::Refused(Refusal::Row);
-    }
-    if first != PICTURE_BYTES {
-        return Verdict::Refused(Refusal::Lent);
-    }
-    if second != PICTURE_BYTES {
-        return Verdict::Refused(Refusal::Lent);
-    }
-    if choice < PICTURES {
-        Verdict::Fine
-    } else {
-        Verdict::Refused(Refusal::Argument)
-    }
+    let lent = (first == PICTURE_BYTES) & (second == PICTURE_BYTES);
+    part_tested(y, lent, choice < PICTURES)
 }
 
 // Would the row be handed back? If not, the refusal.

@@ -6,9 +6,10 @@ use mathlib.Core.Bool.{true}
 use mathlib.Core.List.{List, [], _∷_, List·Memᴰ·head, List·Memᴰ·tail}
 use native.Mathlib.Omega.{arith}
 use Rattle.refusal.specs.Answer.{value}
+use Rattle.row_tests.specs.Tests.{layerTests}
 use Rattle.line.specs.declared.Lines.{Lines}
 use Rattle.composite.specs.Composite.{rowBytes}
-use Rattle.layers.specs.Layers.{Scene, testsOf}
+use Rattle.layers.specs.Layers.{Scene}
 use Rattle.layers.specs.Order.{AllFive, linesAfter, any-order, Run, run-lays}
 use Rattle.renderer.specs.Renderer.{rowOf}
 
@@ -27,6 +28,6 @@ unfolding rowOf
 row-of-any-order s y ks m = ap (rowBytes (s .regs)) (any-order s y ks (0 ∷ 1 ∷ 2 ∷ 3 ∷ 4 ∷ []) m all-five)
 
 -- and so do the lines that any calls of `render_layer` leave, with each of the five layers at least once
-pub row-of-any-calls : (s : Scene) (y : ℕ) → testsOf s y true ≡ value tt → {m : Lines} (ks : List ℕ) → AllFive ks → Run s y ks m →
+pub row-of-any-calls : (s : Scene) (y : ℕ) → layerTests s y true ≡ value tt → {m : Lines} (ks : List ℕ) → AllFive ks → Run s y ks m →
     rowBytes (s .regs) m ≡ rowOf s y
 row-of-any-calls s y t ks f r = ap (rowBytes (s .regs)) (run-lays s y t ks r) ∙ row-of-any-order s y ks f

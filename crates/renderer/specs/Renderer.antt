@@ -5,13 +5,13 @@ use mathlib.Core.Bool.{Bool, true, false, cond}
 use mathlib.Core.List.{List, [], _∷_, _++_}
 use lib.ListN.{length, take, drop}
 use lib.Dec.{eqb}
-use Rattle.refusal.specs.Answer.{Answer, _andThen_, Outcome, outcome}
+use Rattle.refusal.specs.Answer.{Outcome, outcome}
 use Rattle.lists.specs.Tab.{tab, length-tab}
 use Rattle.registers.specs.Screen as screen
+use Rattle.row_tests.specs.Tests.{drawTests}
 use Rattle.line.specs.declared.Lines.{Lines}
 use Rattle.laying.specs.Order.{layAll}
-use Rattle.sprites.specs.Sprites as sprites
-use Rattle.composite.specs.Composite.{colourAt, byteAt, blackRow, rowBytes, lentTests}
+use Rattle.composite.specs.Composite.{colourAt, byteAt, blackRow, rowBytes}
 use Rattle.layers.specs.Layers.{Scene, layerShown, layerPixel, startLines}
 
 module _ (s : Scene) where
@@ -27,21 +27,13 @@ module _ (s : Scene) where
 unfoldable pub withRow : List ℕ → ℕ → List ℕ → List ℕ
 withRow picture y row = take (y * 768) picture ++ (row ++ drop (y * 768 + 768) picture)
 
--- a row above 223 is refused 1, VRAM of another length 2, colour memory 3, sprite memory 4; then a lent row or picture of
--- another length 5, a counter above 16 6
-abbrev pub rowTests : ℕ → ℕ → ℕ → ℕ → Bool → ℕ → Answer Unit
-rowTests y words colours bytes lent counter = sprites.rowTests y words colours bytes andThen lentTests lent counter
-
-abbrev pub testsOf : Scene → ℕ → Bool → Answer Unit
-testsOf s y lent = rowTests y (length (s .vram)) (length (s .cgram)) (length (s .oam)) lent (s .regs .«mosaic_vcounter»)
-
 -- what drawing row y leaves of a lent row
 abbrev pub rowOutcome : Scene → ℕ → List ℕ → Outcome Unit (List ℕ)
-rowOutcome s y row = outcome (testsOf s y (eqb (length row) 768)) tt (rowOf s y) row
+rowOutcome s y row = outcome (drawTests s y (eqb (length row) 768)) tt (rowOf s y) row
 
 -- and of a lent picture
 abbrev pub pictureOutcome : Scene → ℕ → List ℕ → Outcome Unit (List ℕ)
-pictureOutcome s y picture = outcome (testsOf s y (eqb (length picture) 172032)) tt (withRow picture y (rowOf s y)) picture
+pictureOutcome s y picture = outcome (drawTests s y (eqb (length picture) 172032)) tt (withRow picture y (rowOf s y)) picture
 
 -- a row has 768 bytes
 by-blank : (t : Bool) (f : ℕ → ℕ) → length (cond t blackRow (tab 768 f)) ≡ 768

@@ -3,28 +3,16 @@
 pub mod inner;
 
 use composite::ROW_BYTES;
-use composite::inner::lent_tested;
 use refusal::Verdict;
 use registers::PPURegisters;
+use row_tests::inner::draw_tested;
 ghost use mathlib.Core.Path.{_≡_};
-ghost use mathlib.Core.Bool.{true};
-ghost use Rattle.refusal.specs.Verdicts.{verdictMeans, Passed};
-ghost use Rattle.sprites.specs.Sprites.{Sound};
+ghost use Rattle.refusal.specs.Verdicts.{verdictMeans};
 ghost use Rattle.layers.specs.Layers.{scene};
-ghost use Rattle.renderer.specs.Renderer.{rowTests, rowOutcome, pictureOutcome};
+ghost use Rattle.renderer.specs.Renderer.{rowOutcome, pictureOutcome};
 
 // The bytes of a picture.
 pub const PICTURE_BYTES: usize = 172032;
-
-// The tests of both calls; `lent` says that the lent row or picture has its length.
-fn tested(y: usize, words: usize, colours: usize, bytes: usize, lent: bool, counter: u8) -> Verdict
-    ensures { λ v. ⌜ (verdictMeans v ≡ rowTests y words colours bytes lent counter) × (Passed v → Sound colours bytes y × (lent ≡ true)) ⌝ }
-{
-    match sprites::inner::row_tested(y, words, colours, bytes) {
-        Verdict::Fine => lent_tested(lent, counter),
-        Verdict::Refused(n) => Verdict::Refused(n),
-    }
-}
 
 // Draws row y into a lent row.
 pub fn render_scanline(
@@ -38,7 +26,7 @@ pub fn render_scanline(
     ensures { λ v. ⌜ record { said = verdictMeans v; left = now (row .exit) } ≡ rowOutcome (scene r (now (vram .entry)) (now (cgram .entry)) (now (oam .entry))) y (now (row .entry)) ⌝ }
 {
     let lent = row.len() == ROW_BYTES;
-    match tested(
+    match draw_tested(
         y,
         vram.len(),
         cgram.len(),
@@ -66,7 +54,7 @@ pub fn render_into_picture(
     ensures { λ v. ⌜ record { said = verdictMeans v; left = now (picture .exit) } ≡ pictureOutcome (scene r (now (vram .entry)) (now (cgram .entry)) (now (oam .entry))) y (now (picture .entry)) ⌝ }
 {
     let lent = picture.len() == PICTURE_BYTES;
-    match tested(
+    match draw_tested(
         y,
         vram.len(),
         cgram.len(),

@@ -1,15 +1,16 @@
 -- The sprites of a row: the sprite line, their candidates at each pixel, and their laying.
-use Prim.Native.Nat.{ℕ, _<_}
-use mathlib.Core.Path.{_≡_}
-use mathlib.Core.Bool.{Bool, true}
+use Prim.Native.Nat.{ℕ}
+use mathlib.Core.Bool.{true}
 use mathlib.Core.List.{List, map}
-use lib.ListN.{length, take}
-use lib.Dec.{ltb, leb, eqb}
-use Rattle.refusal.specs.Answer.{Answer, value, provided, _andThen_, Outcome, outcome}
+use lib.ListN.{take}
+use lib.Dec.{ltb}
+use Rattle.refusal.specs.Answer.{Answer, value, _andThen_, Outcome, outcome}
 use Rattle.lists.specs.Tab.{tab}
 use Rattle.registers.specs.declared.PPURegisters.{PPURegisters}
 use Rattle.registers.specs.Bits.{bitOf}
+use Rattle.registers.specs.Scene.{scene}
 use Rattle.registers.specs.Screen.{spriteInterlace}
+use Rattle.row_tests.specs.Tests.{layerTests}
 use Rattle.windows.specs.Windows.{spriteWindow}
 use Rattle.oam.specs.declared.Sprite.{Sprite}
 use Rattle.oam.specs.Sprites.{spriteOf}
@@ -47,31 +48,6 @@ shownOf r = record {
   window = spriteWindow r;
 }
 
--- a row above 223 is refused 1, VRAM of another length 2, colour memory 3, sprite memory 4
-abbrev pub rowTests : ℕ → ℕ → ℕ → ℕ → Answer Unit
-rowTests y words colours bytes =
-    provided (ltb y 224) 1
-    (provided (eqb words 32768) 2
-    (provided (eqb colours 256) 3
-    (provided (eqb bytes 544) 4 (value tt))))
-
--- what they leave for the work
-pub record Sound (colours bytes y : ℕ) : Type 0 where
-  pub palettes : colours ≡ 256
-  pub memory : bytes ≡ 544
-  pub row : y < 224
-
--- a counter above 16 is refused 6, another argument out of range 7
-abbrev pub countTests : ℕ → Bool → Answer Unit
-countTests counter inRange = provided (leb counter 16) 6 (provided inRange 7 (value tt))
-
--- the tests of a call that draws, lays or answers for a row, lowest first
-abbrev pub drawTests : ℕ → ℕ → ℕ → ℕ → ℕ → Bool → Answer Unit
-drawTests y words colours bytes counter inRange = rowTests y words colours bytes andThen countTests counter inRange
-
-abbrev pub callTests : List ℕ → List ℕ → List ℕ → PPURegisters → ℕ → Bool → Answer Unit
-callTests v g oam r y inRange = drawTests y (length v) (length g) (length oam) (r .«mosaic_vcounter») inRange
-
 -- a sprite line with no pixel
 unfoldable pub emptyLine : List Candidate
 emptyLine = tab 256 (λ x. none)
@@ -79,14 +55,14 @@ emptyLine = tab 256 (λ x. none)
 -- the sprite line of row y
 abbrev pub spriteLineOutcome : List ℕ → List ℕ → List ℕ → PPURegisters → ℕ → Outcome Unit (List Candidate)
 spriteLineOutcome v g oam r y =
-    outcome (callTests v g oam r y true) tt (tab 256 (spritePixel v g oam r y)) emptyLine
+    outcome (layerTests (scene r v g oam) y true) tt (tab 256 (spritePixel v g oam r y)) emptyLine
 
 -- the candidates at column x of row y
 abbrev pub candidatesAnswer : List ℕ → List ℕ → List ℕ → PPURegisters → ℕ → ℕ → Answer Candidates
 candidatesAnswer v g oam r x y =
-    callTests v g oam r y (ltb x 256) andThen value (candidatesOf (shownOf r) x (spritePixel v g oam r y x))
+    layerTests (scene r v g oam) y (ltb x 256) andThen value (candidatesOf (shownOf r) x (spritePixel v g oam r y x))
 
 -- both lines after row y is laid over them
 abbrev pub linesOutcome : List ℕ → List ℕ → List ℕ → PPURegisters → ℕ → Lines → Outcome Unit Lines
 linesOutcome v g oam r y lines =
-    outcome (callTests v g oam r y true) tt (layLines (shownOf r) (spritePixel v g oam r y) lines) lines
+    outcome (layerTests (scene r v g oam) y true) tt (layLines (shownOf r) (spritePixel v g oam r y) lines) lines

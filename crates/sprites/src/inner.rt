@@ -4,83 +4,24 @@ use laying::Candidates;
 use laying::Shown;
 use line::Candidate;
 use line::Lines;
-use oam::OAM_SIZE;
-use refusal::Refusal;
-use refusal::Verdict;
 use registers::PPURegisters;
-use registers::constants::COLOUR_WORDS;
-use registers::constants::LARGEST_COUNTER;
-use registers::constants::SCREEN_HEIGHT;
 use registers::inner::bit;
 use sprite_fetch::Fetched;
 use sprite_fetch::inner::draw;
 use sprite_fetch::inner::fetch;
 use sprite_tile::View;
-use tiles::inner::VRAM_WORDS;
 ghost use mathlib.Core.Path.{_≡_};
-ghost use mathlib.Core.Bool.{true};
 ghost use Prim.Native.Nat.{_<_, _≤_};
 ghost use lib.ListN.{length};
-ghost use Rattle.refusal.specs.Verdicts.{verdictMeans, Passed};
 ghost use Rattle.lists.specs.Tab.{tab};
+ghost use Rattle.row_tests.specs.Tests.{SceneTested};
 ghost use Rattle.laying.specs.Laying.{candidatesOf, layLines};
-ghost use Rattle.sprites.specs.Sprites.{Sound, rowTests, countTests, drawTests, viewOf, chosenSprites, spritePixel, shownOf, emptyLine};
+ghost use Rattle.sprites.specs.Sprites.{viewOf, chosenSprites, spritePixel, shownOf, emptyLine};
 ghost use Rattle.sprite_fetch.specs.Fetch.{fetched};
 ghost use Rattle.sprite_fetch.specs.Walk.{fetchedList, AllSound};
 
 // The sprites' bit of tm, ts, tmw and tsw.
 const OBJ: usize = 4;
-
-// The first tests of a row: its number and the lengths of the three memories.
-pub fn row_tested(y: usize, words: usize, colours: usize, bytes: usize) -> Verdict
-    ensures { λ v. ⌜ (verdictMeans v ≡ rowTests y words colours bytes) × (Passed v → Sound colours bytes y) ⌝ }
-{
-    if y >= SCREEN_HEIGHT {
-        return Verdict::Refused(Refusal::Row);
-    }
-    if words != VRAM_WORDS {
-        return Verdict::Refused(Refusal::Vram);
-    }
-    if colours != COLOUR_WORDS {
-        return Verdict::Refused(Refusal::Colour);
-    }
-    if bytes != OAM_SIZE {
-        return Verdict::Refused(Refusal::Oam);
-    }
-    Verdict::Fine
-}
-
-// The last tests: the counter, and that the other arguments are in their ranges, which `in_range`
-// says.
-fn counted(counter: u8, in_range: bool) -> Verdict
-    ensures { λ v. ⌜ (verdictMeans v ≡ countTests counter «in_range») × (Passed v → («in_range» ≡ true)) ⌝ }
-{
-    if counter > LARGEST_COUNTER {
-        return Verdict::Refused(Refusal::Counter);
-    }
-    if in_range {
-        Verdict::Fine
-    } else {
-        Verdict::Refused(Refusal::Argument)
-    }
-}
-
-// All of them.
-pub fn tested(
-    y: usize,
-    words: usize,
-    colours: usize,
-    bytes: usize,
-    counter: u8,
-    in_range: bool,
-) -> Verdict
-    ensures { λ v. ⌜ (verdictMeans v ≡ drawTests y words colours bytes counter «in_range») × (Passed v → Sound colours bytes y × («in_range» ≡ true)) ⌝ }
-{
-    match row_tested(y, words, colours, bytes) {
-        Verdict::Fine => counted(counter, in_range),
-        Verdict::Refused(n) => Verdict::Refused(n),
-    }
-}
 
 // A line with no pixel.
 pub fn empty() -> [Candidate; 256]
@@ -116,7 +57,7 @@ pub fn tiles(oam: &[u8], r: PPURegisters, y: usize) -> Fetched
 
 // The sprite line: the fetched tiles are drawn.
 pub fn line(vram: &[u16], cgram: &[u16], oam: &[u8], r: PPURegisters, y: usize) -> [Candidate; 256]
-    requires { ⌜ Sound (length (now cgram)) (length (now oam)) y ⌝ }
+    requires { ⌜ SceneTested (length (now cgram)) (length (now oam)) y ⌝ }
     ensures { λ l. ⌜ l ≡ tab 256 (spritePixel (now (vram .entry)) (now (cgram .entry)) (now (oam .entry)) r y) ⌝ }
 {
     draw(tiles(oam, r, y), vram, cgram)
@@ -145,7 +86,7 @@ pub fn candidates(
     x: usize,
     y: usize,
 ) -> Candidates
-    requires { ⌜ Sound (length (now cgram)) (length (now oam)) y × (x < 256) ⌝ }
+    requires { ⌜ SceneTested (length (now cgram)) (length (now oam)) y × (x < 256) ⌝ }
     ensures { λ c. ⌜ c ≡ candidatesOf (shownOf r) x (spritePixel (now (vram .entry)) (now (cgram .entry)) (now (oam .entry)) r y x) ⌝ }
 {
     let line = line(vram, cgram, oam, r, y);
@@ -161,7 +102,7 @@ pub fn lay(
     r: PPURegisters,
     y: usize,
 ) -> Lines
-    requires { ⌜ Sound (length (now cgram)) (length (now oam)) y ⌝ }
+    requires { ⌜ SceneTested (length (now cgram)) (length (now oam)) y ⌝ }
     ensures { λ o. ⌜ o ≡ layLines (shownOf r) (spritePixel (now (vram .entry)) (now (cgram .entry)) (now (oam .entry)) r y) lines ⌝ }
 {
     let shown = shown(r);

@@ -9,6 +9,7 @@ use line::Lines;
 use refusal::Verdict;
 use registers::PPURegisters;
 use registers::constants::SCREEN_WIDTH;
+use row_tests::inner::layer_tested;
 ghost use mathlib.Core.Path.{_≡_};
 ghost use Rattle.laying.specs.Answers.{candidatesMean, linesMean};
 ghost use Rattle.sprites.specs.Sprites.{spriteLineOutcome, candidatesAnswer, linesOutcome};
@@ -31,7 +32,7 @@ pub fn sprite_line(
 ) -> SpriteLineAnswer
     ensures { λ a. ⌜ spriteLineMeans a ≡ spriteLineOutcome (now (vram .entry)) (now (cgram .entry)) (now (oam .entry)) r y ⌝ }
 {
-    match inner::tested(
+    match layer_tested(
         y,
         vram.len(),
         cgram.len(),
@@ -68,7 +69,7 @@ pub fn sprite_candidates(
     ensures { λ a. ⌜ candidatesMean a ≡ candidatesAnswer (now (vram .entry)) (now (cgram .entry)) (now (oam .entry)) r x y ⌝ }
 {
     let column = x < SCREEN_WIDTH;
-    match inner::tested(
+    match layer_tested(
         y,
         vram.len(),
         cgram.len(),
@@ -92,7 +93,7 @@ pub fn render_sprites(
 ) -> LinesAnswer
     ensures { λ a. ⌜ linesMean a ≡ linesOutcome (now (vram .entry)) (now (cgram .entry)) (now (oam .entry)) r y lines ⌝ }
 {
-    match inner::tested(
+    match layer_tested(
         y,
         vram.len(),
         cgram.len(),

@@ -7,14 +7,14 @@ use Rattle.layers.proofs.render_layer.Tie as tie
 
 lay-requires : tie.Need-lay-requires
 lay-requires c κs =
-    let h = c .before .before .tested .ensures .1 (passed (c .enum-told .given .1)) in
+    let h = c .before .before .layer-tested .ensures .1 (passed (c .enum-told .given .1)) in
     (h .0, ltb-true _ 5 (h .1))
 
 returns : tie.Need-returns
-returns c = by-fine tt _ _ (c .before .before .before .tested .ensures .0) (c .before .enum-told .given .1) refl (c .lay .ensures)
+returns c = by-fine tt _ _ (c .before .before .before .layer-tested .ensures .0) (c .before .enum-told .given .1) refl (c .lay .ensures)
 
 returns-2 : tie.Need-returns-2
-returns-2 c = by-refusal tt _ _ (c .before .before .before .tested .ensures .0) (c .before .n .given .1) refl
+returns-2 c = by-refusal tt _ _ (c .before .before .before .layer-tested .ensures .0) (c .before .n .given .1) refl
 
 pub render-layer-spec : {M : Type 1} → statement M
 render-layer-spec =

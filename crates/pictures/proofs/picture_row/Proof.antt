@@ -5,7 +5,7 @@ use lib.ListN.{length}
 use denote.Ref.{now}
 use borrow.Author.Tests.{eq-eqb, ne-eqb}
 use Rattle.refusal.specs.Verdicts.{passed}
-use Rattle.pictures.specs.Pictures.{Sound, lent}
+use Rattle.pictures.specs.Pictures.{PicturesTested, lent}
 use Rattle.pictures.proofs.Handed.{fine-row, no-row}
 use borrow.Author.Needs.{needs}
 use Rattle.pictures.proofs.picture_row.Statement.{statement}
@@ -13,7 +13,7 @@ use Rattle.pictures.proofs.picture_row.Tie as tie
 
 -- what the tests leave
 sound : (c : tie.After-enum-told) → let a = c .before .before .before .before .before .args in
-    Sound (length (now (a .first))) (length (now (a .second))) (a .choice) (a .y)
+    PicturesTested (length (now (a .first))) (length (now (a .second))) (a .choice) (a .y)
 sound c = c .before .before .tested .ensures .1 (passed (c .enum-told .given .1))
 
 mul-start : tie.Need-mul-start

@@ -1,31 +1,25 @@
-use borrow.Author.Tests.{lt-ltb, le-ltb, eq-eqb, ne-eqb}
+use mathlib.Core.Bool.{and-eq-true-iff}
+use lib.Dec.{eqb}
+use borrow.Author.Tests.{ltb-true, eqb-true}
+use borrow.Author.Needs.{needs}
 use Rattle.pictures.proofs.tested.Statement.{statement}
 use Rattle.pictures.proofs.tested.Tie as tie
 
 returns : tie.Need-returns
-returns c = (simp (le-ltb _ _ (c .if1 .taken)), λ e. absurd e)
-
-returns-2 : tie.Need-returns-2
-returns-2 c = (simp (lt-ltb _ _ (c .before .if1 .left), ne-eqb _ _ (c .if2 .taken)), λ e. absurd e)
-
-returns-3 : tie.Need-returns-3
-returns-3 c =
-    let d = c .before in
-    (simp (lt-ltb _ _ (d .before .if1 .left), eq-eqb _ _ (d .if2 .left), ne-eqb _ _ (c .if3 .taken)), λ e. absurd e)
-
-returns-4 : tie.Need-returns-4
-returns-4 c =
-    let d = c .before in
-    let b = d .before in (
-      simp (lt-ltb _ _ (b .before .if1 .left), eq-eqb _ _ (b .if2 .left), eq-eqb _ _ (d .if3 .left), lt-ltb _ _ (c .if4 .taken)),
-      λ n. record { row = b .before .if1 .left; whole = b .if2 .left; whole-2 = d .if3 .left; either = c .if4 .taken },
+returns c =
+    let t = c .part-tested .ensures in
+    let a = c .before .args in (
+      t .0,
+      λ p.
+          let h = t .1 p in
+          let both = and-eq-true-iff (eqb (a .first) 172032) (eqb (a .second) 172032) .0 (h .1 .0) in
+          record {
+            row = h .0;
+            whole = eqb-true (a .first) 172032 (both .0);
+            whole-2 = eqb-true (a .second) 172032 (both .1);
+            either = ltb-true (a .choice) 2 (h .1 .1);
+          },
     )
 
-returns-5 : tie.Need-returns-5
-returns-5 c =
-    let d = c .before in
-    let b = d .before in
-    (simp (lt-ltb _ _ (b .before .if1 .left), eq-eqb _ _ (b .if2 .left), eq-eqb _ _ (d .if3 .left), le-ltb _ _ (c .if4 .left)), λ n. absurd n)
-
 pub tested-spec : {M : Type 1} → statement M
-tested-spec = tie.close (tie.spec returns returns-2 returns-3 returns-4 returns-5)
+tested-spec = tie.close (tie.spec (λ c κs. search needs) returns)

@@ -8,7 +8,7 @@ use borrow.Author.Tests.{eqb-true}
 use borrow.Rule.Slice.PartAt.{part-count}
 use borrow.Rule.Slice.PartMut.{post-is}
 use Rattle.refusal.specs.Verdicts.{passed, by-fine, by-refusal}
-use Rattle.sprites.specs.Sprites.{Sound}
+use Rattle.row_tests.specs.Tests.{SceneTested}
 use Rattle.renderer.specs.Renderer.{withRow}
 use borrow.Author.Needs.{needs}
 use Rattle.renderer.proofs.render_into_picture.Statement.{statement}
@@ -16,11 +16,11 @@ use Rattle.renderer.proofs.render_into_picture.Tie as tie
 
 -- what the tests leave
 sound : (c : tie.After-enum-told) → let a = c .before .before .before .before .before .before .before .args in
-    Sound (length (now (a .cgram))) (length (now (a .oam))) (a .y)
-sound c = c .before .before .tested .ensures .1 (passed (c .enum-told .given .1)) .0
+    SceneTested (length (now (a .cgram))) (length (now (a .oam))) (a .y)
+sound c = c .before .before .draw-tested .ensures .1 (passed (c .enum-told .given .1)) .0
 
 whole : (c : tie.After-enum-told) → length (now (c .before .before .before .before .before .before .before .args .picture)) ≡ 172032
-whole c = eqb-true _ 172032 (c .before .before .tested .ensures .1 (passed (c .enum-told .given .1)) .1)
+whole c = eqb-true _ 172032 (c .before .before .draw-tested .ensures .1 (passed (c .enum-told .given .1)) .1)
 
 row : (c : tie.After-enum-told) → c .before .before .before .before .before .before .before .args .y < 224
 row c = sound c .row
@@ -53,13 +53,13 @@ returns c =
     let a = e .before .before .before .before .before .before .before .args in
     let start = a .y * 768 in
     let p = now (a .picture) in
-    by-fine tt _ _ (e .before .before .tested .ensures .0) (e .enum-told .given .1) refl
+    by-fine tt _ _ (e .before .before .draw-tested .ensures .0) (e .enum-told .given .1) refl
     (λ i. take start p ++ (d .render .ensures i ++ post-is start (start + 768) p (omega arith) i))
 
 returns-2 : tie.Need-returns-2
 returns-2 c =
     let n = c .before in
-    by-refusal tt _ _ (n .before .before .tested .ensures .0) (n .n .given .1) refl
+    by-refusal tt _ _ (n .before .before .draw-tested .ensures .0) (n .n .given .1) refl
 
 pub render-into-picture-spec : {M : Type 1} → statement M
 render-into-picture-spec =

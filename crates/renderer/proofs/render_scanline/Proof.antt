@@ -7,19 +7,19 @@ use Rattle.renderer.proofs.render_scanline.Tie as tie
 
 render-requires : tie.Need-render-requires
 render-requires c κs =
-    let h = c .before .before .before .tested .ensures .1 (passed (c .before .enum-told .given .1)) in
+    let h = c .before .before .before .draw-tested .ensures .1 (passed (c .before .enum-told .given .1)) in
     (h .0, eqb-true _ 768 (h .1))
 
 returns : tie.Need-returns
 returns c =
     let d = c .before .before in
     let e = d .before .before in
-    by-fine tt _ _ (e .before .before .tested .ensures .0) (e .enum-told .given .1) refl (d .render .ensures)
+    by-fine tt _ _ (e .before .before .draw-tested .ensures .0) (e .enum-told .given .1) refl (d .render .ensures)
 
 returns-2 : tie.Need-returns-2
 returns-2 c =
     let n = c .before in
-    by-refusal tt _ _ (n .before .before .tested .ensures .0) (n .n .given .1) refl
+    by-refusal tt _ _ (n .before .before .draw-tested .ensures .0) (n .n .given .1) refl
 
 pub render-scanline-spec : {M : Type 1} → statement M
 render-scanline-spec =

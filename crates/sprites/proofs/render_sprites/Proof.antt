@@ -5,13 +5,13 @@ use Rattle.sprites.proofs.render_sprites.Statement.{statement}
 use Rattle.sprites.proofs.render_sprites.Tie as tie
 
 lay-requires : tie.Need-lay-requires
-lay-requires c κs = c .before .before .tested .ensures .1 (passed (c .enum-told .given .1)) .0
+lay-requires c κs = c .before .before .layer-tested .ensures .1 (passed (c .enum-told .given .1)) .0
 
 returns : tie.Need-returns
-returns c = by-fine tt _ _ (c .before .before .before .tested .ensures .0) (c .before .enum-told .given .1) refl (c .lay .ensures)
+returns c = by-fine tt _ _ (c .before .before .before .layer-tested .ensures .0) (c .before .enum-told .given .1) refl (c .lay .ensures)
 
 returns-2 : tie.Need-returns-2
-returns-2 c = by-refusal tt _ _ (c .before .before .before .tested .ensures .0) (c .before .n .given .1) refl
+returns-2 c = by-refusal tt _ _ (c .before .before .before .layer-tested .ensures .0) (c .before .n .given .1) refl
 
 pub render-sprites-spec : {M : Type 1} → statement M
 render-sprites-spec =
