@@ -19,8 +19,8 @@ use Rattle.bg_map.specs.declared.BgParams.{BgParams}
 use Rattle.bg_row.specs.Row.{bgPixel}
 
 -- where the background is shown: its window, and its bits of tmw and tsw
-unfoldable pub shownOf : PPURegisters → BgParams → Shown
-shownOf r p = record {
+unfoldable pub bgShownBy : PPURegisters → BgParams → Shown
+bgShownBy r p = record {
   «to_main» = p .«to_main»;
   «to_sub» = p .«to_sub»;
   «win_main» = bitOf (r .tmw) (backgroundOf (p .layer));
@@ -33,14 +33,14 @@ abbrev pub isBackground : Layer → Bool
 isBackground layer = ltb (backgroundOf layer) 4
 
 -- the candidates at column x of row y
-abbrev pub candidatesAnswer : List ℕ → List ℕ → PPURegisters → BgParams → ℕ → ℕ → Answer Candidates
-candidatesAnswer v g r p x y =
+abbrev pub bgCandidatesAnswer : List ℕ → List ℕ → PPURegisters → BgParams → ℕ → ℕ → Answer Candidates
+bgCandidatesAnswer v g r p x y =
     bgTests y (length v) (length g) (r .«mosaic_vcounter») (ltb x 256 && isBackground (p .layer))
-    andThen value (candidatesOf (shownOf r p) x (bgPixel v g r p y x))
+    andThen value (candidatesOf (bgShownBy r p) x (bgPixel v g r p y x))
 
 -- both lines after row y is laid over them
-abbrev pub lineOutcome : List ℕ → List ℕ → PPURegisters → BgParams → ℕ → Lines → Outcome Unit Lines
-lineOutcome v g r p y lines =
+abbrev pub bgLaidOutcome : List ℕ → List ℕ → PPURegisters → BgParams → ℕ → Lines → Outcome Unit Lines
+bgLaidOutcome v g r p y lines =
     outcome (bgTests y (length v) (length g) (r .«mosaic_vcounter») (isBackground (p .layer))) tt
-    (layLines (shownOf r p) (bgPixel v g r p y) lines)
+    (layLines (bgShownBy r p) (bgPixel v g r p y) lines)
     lines

@@ -15,12 +15,12 @@ ghost use lib.ListN.{length};
 ghost use Rattle.line.specs.Pixels.{backgroundOf};
 ghost use Rattle.laying.specs.Laying.{candidatesOf, layLines};
 ghost use Rattle.bg_row.specs.Row.{Sound, bgPixel};
-ghost use Rattle.background.specs.Background.{shownOf};
+ghost use Rattle.background.specs.Background.{bgShownBy};
 
 // Where the background is shown.
 fn shown(r: PPURegisters, p: BgParams) -> Shown
     requires { ⌜ backgroundOf (p .layer) < 4 ⌝ }
-    ensures { λ s. ⌜ s ≡ shownOf r p ⌝ }
+    ensures { λ s. ⌜ s ≡ bgShownBy r p ⌝ }
 {
     let layer = p.layer;
     let bg = bg_index(layer);
@@ -44,7 +44,7 @@ pub fn candidates(
     y: usize,
 ) -> Candidates
     requires { ⌜ Sound (length (now cgram)) (p .layer) y × (x < 256) ⌝ }
-    ensures { λ c. ⌜ c ≡ candidatesOf (shownOf r p) x (bgPixel (now (vram .entry)) (now (cgram .entry)) r p y x) ⌝ }
+    ensures { λ c. ⌜ c ≡ candidatesOf (bgShownBy r p) x (bgPixel (now (vram .entry)) (now (cgram .entry)) r p y x) ⌝ }
 {
     let px = source_column(r, p, x);
     let py = source_line(r, p, y);
@@ -62,7 +62,7 @@ pub fn lay(
     y: usize,
 ) -> Lines
     requires { ⌜ Sound (length (now cgram)) (p .layer) y ⌝ }
-    ensures { λ o. ⌜ o ≡ layLines (shownOf r p) (bgPixel (now (vram .entry)) (now (cgram .entry)) r p y) lines ⌝ }
+    ensures { λ o. ⌜ o ≡ layLines (bgShownBy r p) (bgPixel (now (vram .entry)) (now (cgram .entry)) r p y) lines ⌝ }
 {
     let c = bg_row::inner::row(vram, cgram, r, p, y);
     laying::lay(lines, c, shown(r, p))

@@ -19,7 +19,7 @@ ghost use Rattle.refusal.specs.Verdicts.{verdictMeans, Passed};
 ghost use Rattle.row_tests.specs.Tests.{bgTests};
 ghost use Rattle.laying.specs.Answers.{candidatesMean, linesMean};
 ghost use Rattle.bg_row.specs.Row.{Sound};
-ghost use Rattle.background.specs.Background.{isBackground, candidatesAnswer, lineOutcome};
+ghost use Rattle.background.specs.Background.{isBackground, bgCandidatesAnswer, bgLaidOutcome};
 
 // The tests of both calls; `column` says that the column is in its range.
 fn tested(
@@ -50,7 +50,7 @@ pub fn bg_candidates(
     x: usize,
     y: usize,
 ) -> CandidatesAnswer
-    ensures { λ a. ⌜ candidatesMean a ≡ candidatesAnswer (now (vram .entry)) (now (cgram .entry)) r p x y ⌝ }
+    ensures { λ a. ⌜ candidatesMean a ≡ bgCandidatesAnswer (now (vram .entry)) (now (cgram .entry)) r p x y ⌝ }
 {
     let layer = p.layer;
     let column = x < SCREEN_WIDTH;
@@ -69,7 +69,7 @@ pub fn render_bg_scanline(
     p: BgParams,
     y: usize,
 ) -> LinesAnswer
-    ensures { λ a. ⌜ linesMean a ≡ lineOutcome (now (vram .entry)) (now (cgram .entry)) r p y lines ⌝ }
+    ensures { λ a. ⌜ linesMean a ≡ bgLaidOutcome (now (vram .entry)) (now (cgram .entry)) r p y lines ⌝ }
 {
     let layer = p.layer;
     match tested(y, vram.len(), cgram.len(), r.mosaic_vcounter, true, layer) {

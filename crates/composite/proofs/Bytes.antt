@@ -2,10 +2,10 @@
 use Prim.Native.Nat.{ℕ, _/_, _%_}
 use mathlib.Core.Path.{_≡_}
 use Rattle.colour.specs.Colour.{brightnessOf}
-use Rattle.composite.specs.Composite.{channelAt, byteAt}
+use Rattle.composite.specs.Composite.{channelAt, rowByteAt}
 
 -- byte i, by its pixel and its channel
 pub byte-is : (colours : ℕ → ℕ) (b x k i : ℕ) → x ≡ i / 3 → k ≡ i % 3 →
-    channelAt k (brightnessOf (colours x) b) ≡ byteAt colours b i
-unfolding byteAt
+    channelAt k (brightnessOf (colours x) b) ≡ rowByteAt colours b i
+unfolding rowByteAt
 byte-is colours b x k i e f = λ j. channelAt (f j) (brightnessOf (colours (e j)) b)

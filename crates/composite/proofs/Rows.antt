@@ -16,23 +16,23 @@ use Rattle.line.specs.declared.Lines.{Lines}
 use Rattle.line.specs.Pixels.{noPixel}
 use Rattle.blend.specs.declared.ColorMath.{ColorMath}
 use Rattle.blend.specs.Blend.{settingsOf, colourOf}
-use Rattle.composite.specs.Composite.{colourAt, channelAt, byteAt, blackRow, rowBytes}
+use Rattle.composite.specs.Composite.{colourAt, channelAt, rowByteAt, blackRow, rowBytes}
 use Rattle.composite.proofs.Idle.{asks, asked}
 
 module _ (r : PPURegisters) (lines : Lines) where
   -- under forced blank
   pub blank-row : screen.blanked r ≡ true → blackRow ≡ rowBytes r lines
   unfolding rowBytes
-  blank-row e = λ i. cond (sym e i) blackRow (tab 768 (byteAt (colourAt r lines) (screen.brightnessOf r)))
+  blank-row e = λ i. cond (sym e i) blackRow (tab 768 (rowByteAt (colourAt r lines) (screen.brightnessOf r)))
 
   -- and otherwise
   pub lit-row : (f : ℕ → ℕ) (b : ℕ) → screen.blanked r ≡ false → b ≡ screen.brightnessOf r → ((x : ℕ) → x < 256 → f x ≡ colourAt r lines x) →
-      tab 768 (byteAt f b) ≡ rowBytes r lines
-  unfolding rowBytes byteAt
+      tab 768 (rowByteAt f b) ≡ rowBytes r lines
+  unfolding rowBytes rowByteAt
   lit-row f b e d h =
-      tab-ext 768 (byteAt f b) (byteAt (colourAt r lines) (screen.brightnessOf r))
+      tab-ext 768 (rowByteAt f b) (rowByteAt (colourAt r lines) (screen.brightnessOf r))
       (λ n k. λ i. channelAt (n % 3) (brightnessOf (h (n / 3) (omega arith) i) (d i)))
-      ∙ (λ i. cond (sym e i) blackRow (tab 768 (byteAt (colourAt r lines) (screen.brightnessOf r))))
+      ∙ (λ i. cond (sym e i) blackRow (tab 768 (rowByteAt (colourAt r lines) (screen.brightnessOf r))))
 
   -- the colours that the calls leave
   module _ {s : ColorMath} {w : Window} {on : Bool} {inside : List Bool} {colors : List ℕ} (settings : s ≡ settingsOf r)

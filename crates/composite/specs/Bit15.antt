@@ -16,7 +16,7 @@ use Rattle.line.specs.Recoloured.{recolouredLines}
 use Rattle.laying.specs.Recoloured.{pixel-recoloured}
 use Rattle.blend.specs.Blend.{settingsOf, colourOf}
 use Rattle.blend.specs.Bit15.{colour-blind}
-use Rattle.composite.specs.Composite.{colourAt, channelAt, byteAt, blackRow, rowBytes}
+use Rattle.composite.specs.Composite.{colourAt, channelAt, rowByteAt, blackRow, rowBytes}
 
 -- a rule that keeps colour 0 and changes bit 15 at most, and both lines and coldata changed by it
 module _ (f : ℕ → ℕ) (black : f 0 ≡ 0) (same : (c : ℕ) → SameColour (f c) c) (r : PPURegisters) (lines : Lines) where
@@ -35,7 +35,7 @@ module _ (f : ℕ → ℕ) (black : f 0 ≡ 0) (same : (c : ℕ) → SameColour 
 
   -- and the row is the same
   pub row-blind : rowBytes (withColdata (f (r .coldata)) r) (recolouredLines f lines) ≡ rowBytes r lines
-  unfolding rowBytes byteAt
+  unfolding rowBytes rowByteAt
   row-blind =
       λ i.
       cond (screen.blanked r) blackRow

@@ -27,15 +27,15 @@ abbrev pub channelAt : ℕ → Rgb → ℕ
 channelAt k c = cond (eqb k 0) (c .red) (cond (eqb k 1) (c .green) (c .blue))
 
 -- byte i of a row of such colours: channel i mod 3 of pixel i / 3, at the brightness
-unfoldable pub byteAt : (ℕ → ℕ) → ℕ → ℕ → ℕ
-byteAt colours brightness i = channelAt (i % 3) (brightnessOf (colours (i / 3)) brightness)
+unfoldable pub rowByteAt : (ℕ → ℕ) → ℕ → ℕ → ℕ
+rowByteAt colours brightness i = channelAt (i % 3) (brightnessOf (colours (i / 3)) brightness)
 
 unfoldable pub blackRow : List ℕ
 blackRow = tab 768 (λ i. 0)
 
 -- the row; forced blank writes a black one
 unfoldable pub rowBytes : PPURegisters → Lines → List ℕ
-rowBytes r lines = cond (screen.blanked r) blackRow (tab 768 (byteAt (colourAt r lines) (screen.brightnessOf r)))
+rowBytes r lines = cond (screen.blanked r) blackRow (tab 768 (rowByteAt (colourAt r lines) (screen.brightnessOf r)))
 
 -- what the composite leaves of a lent row
 abbrev pub compositeOutcome : List ℕ → Lines → PPURegisters → Outcome Unit (List ℕ)

@@ -19,7 +19,7 @@ ghost use lib.ListN.{length, getD};
 ghost use Rattle.lists.specs.Tab.{tab};
 ghost use Rattle.line.specs.Pixels.{noPixel};
 ghost use Rattle.blend.specs.Blend.{region, colourOf};
-ghost use Rattle.composite.specs.Composite.{byteAt, blackRow, rowBytes};
+ghost use Rattle.composite.specs.Composite.{rowByteAt, blackRow, rowBytes};
 
 // The colours of a row, before brightness.
 fn mix(lines: Lines, s: ColorMath, inside: [bool; 256]) -> [u16; 256]
@@ -63,7 +63,7 @@ fn colors(lines: Lines, s: ColorMath, inside: [bool; 256]) -> [u16; 256]
 // Writes a row of colours at a brightness.
 pub fn brighten(row: &mut [u8], colors: [u16; 256], brightness: u16)
     requires { ⌜ (length (now row) ≡ 768) × (brightness < 16) ⌝ }
-    ensures { λ u. ⌜ now (row .exit) ≡ tab 768 (byteAt (λ x. getD colors x 0) brightness) ⌝ }
+    ensures { λ u. ⌜ now (row .exit) ≡ tab 768 (rowByteAt (λ x. getD colors x 0) brightness) ⌝ }
 {
     for x in 0..SCREEN_WIDTH {
         let c = colors[x];

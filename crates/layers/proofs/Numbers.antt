@@ -9,9 +9,9 @@ use Rattle.bg_row.specs.Row as row
 use Rattle.modes.specs.Modes.{paramsOf}
 use Rattle.modes.specs.Own.{own-number}
 
--- a background's parameters are sound where the row is
-pub sound : {colours y : ℕ} {p : BgParams} (r : PPURegisters) (b : ℕ) → colours ≡ 256 → y < 224 → p ≡ paramsOf r b → row.Sound colours (p .layer) y
-sound r b g y e = record {
+-- what a background's row asks for holds of its own parameters, where the row's tests are passed
+pub bg-tested : {colours y : ℕ} {p : BgParams} (r : PPURegisters) (b : ℕ) → colours ≡ 256 → y < 224 → p ≡ paramsOf r b → row.Sound colours (p .layer) y
+bg-tested r b g y e = record {
   whole = g;
   background = subst (λ (q : BgParams). backgroundOf (q .layer) < 4) (sym e) (own-number r b);
   row = y;

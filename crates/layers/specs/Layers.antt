@@ -22,7 +22,7 @@ use Rattle.sprites.specs.Sprites as sprites
 module _ (s : Scene) where
   -- where background k is shown, and its pixel at column x of row y
   abbrev pub bgShown : ℕ → Shown
-  bgShown k = background.shownOf (s .regs) (paramsOf (s .regs) k)
+  bgShown k = background.bgShownBy (s .regs) (paramsOf (s .regs) k)
 
   abbrev pub bgAt : ℕ → ℕ → ℕ → Candidate
   bgAt y k x = bgPixel (s .vram) (s .cgram) (s .regs) (paramsOf (s .regs) k) y x
@@ -33,7 +33,7 @@ module _ (s : Scene) where
 
   -- where layer k is shown
   unfoldable pub layerShown : ℕ → Shown
-  layerShown k = cond (ltb k 4) (bgShown k) (sprites.shownOf (s .regs))
+  layerShown k = cond (ltb k 4) (bgShown k) (sprites.spritesShown (s .regs))
 
   -- its pixel, and whether it is opaque; there is no layer above 4
   unfoldable pub layerPixel : ℕ → ℕ → ℕ → Candidate
@@ -57,8 +57,8 @@ backdropOutcome g r =
     outcome (colourTest (length g)) tt (backdropLines (getD g 0 0) (r .coldata)) (backdropLines 0 0)
 
 -- the candidates of layer k at column x of row y
-abbrev pub candidatesAnswer : Scene → ℕ → ℕ → ℕ → Answer Candidates
-candidatesAnswer s x y k = layerTests s y (ltb x 256 && ltb k 5) andThen value (layerCandidates s y k x)
+abbrev pub layerCandidatesAnswer : Scene → ℕ → ℕ → ℕ → Answer Candidates
+layerCandidatesAnswer s x y k = layerTests s y (ltb x 256 && ltb k 5) andThen value (layerCandidates s y k x)
 
 -- both lines after layer k of row y is laid over them
 abbrev pub layerOutcome : Scene → ℕ → ℕ → Lines → Outcome Unit Lines

@@ -35,11 +35,11 @@ full-laid shown row l = (length-tab _ 256, length-tab _ 256)
 module _ (s : Scene) (k : ℕ) where
   pub shown-low : k < 4 → bgShown s k ≡ layerShown s k
   unfolding layerShown
-  shown-low h = λ i. cond (sym (lt-ltb k 4 h) i) (bgShown s k) (sprites.shownOf (s .regs))
+  shown-low h = λ i. cond (sym (lt-ltb k 4 h) i) (bgShown s k) (sprites.spritesShown (s .regs))
 
-  pub shown-four : k ≡ 4 → sprites.shownOf (s .regs) ≡ layerShown s k
+  pub shown-four : k ≡ 4 → sprites.spritesShown (s .regs) ≡ layerShown s k
   unfolding layerShown
-  shown-four e = λ i. cond (ltb (sym e i) 4) (bgShown s k) (sprites.shownOf (s .regs))
+  shown-four e = λ i. cond (ltb (sym e i) 4) (bgShown s k) (sprites.spritesShown (s .regs))
 
   module _ (y : ℕ) where
     pub pixel-low : k < 4 → bgAt s y k ≡ layerPixel s y k

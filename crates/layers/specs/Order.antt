@@ -55,10 +55,10 @@ module _ (s : Scene) (y : ℕ) where
 
   -- The same of calls of `render_layer` with any numbers ks: each takes the lines that the one before left, and enters by its
   -- contract alone.
-  pub data Calls : Lines → List ℕ → Lines → Type 0 where
-    none : {l : Lines} → Calls l [] l
+  pub data LayerCalls : Lines → List ℕ → Lines → Type 0 where
+    none : {l : Lines} → LayerCalls l [] l
     call : {l m : Lines} {k : ℕ} {ks : List ℕ} (a : LinesAnswer) → linesMean a ≡ layerOutcome s y k l →
-        Calls (a .lines) ks m → Calls l (k ∷ ks) m
+        LayerCalls (a .lines) ks m → LayerCalls l (k ∷ ks) m
 
   either : {a b : Lines} (t : Answer Unit) → a ≡ b → outcome {A = Unit} t tt a b .left ≡ a
   either (value u) e = refl
@@ -75,7 +75,7 @@ module _ (s : Scene) (y : ℕ) where
       by-test false e = either (layerTests s y false) (none-laid s k y (ltb-false k 5 e) l w)
 
   -- so the calls leave what their layers leave
-  pub calls-lay : layerTests s y true ≡ value tt → {l m : Lines} (ks : List ℕ) → FullLines l → Calls l ks m →
+  pub calls-lay : layerTests s y true ≡ value tt → {l m : Lines} (ks : List ℕ) → FullLines l → LayerCalls l ks m →
       m ≡ layAll (layerShown s) (layerPixel s y) ks l
   unfolding layAll
   calls-lay t [] w none = refl
@@ -90,7 +90,7 @@ module _ (s : Scene) (y : ℕ) where
     pub start : LinesAnswer
     pub begins : linesMean start ≡ backdropOutcome (s .cgram) (s .regs)
     pub fine : verdictMeans (start .verdict) ≡ value tt
-    pub calls : Calls (start .lines) ks m
+    pub calls : LayerCalls (start .lines) ks m
 
   from-start : (a : LinesAnswer) → linesMean a ≡ backdropOutcome (s .cgram) (s .regs) → verdictMeans (a .verdict) ≡ value tt →
       a .lines ≡ startLines s
@@ -121,5 +121,5 @@ module _ (s : Scene) (y : ℕ) where
   calls-greatest-on-sub t ks f r x h = rw (run-lays t ks r) (greatest-on-sub ks f x h)
 
   -- So any two such runs end in the same lines.
-  pub any-calls : layerTests s y true ≡ value tt → {m n : Lines} (ks js : List ℕ) → AllFive ks → AllFive js → Run ks m → Run js n → m ≡ n
-  any-calls t ks js f g r q = run-lays t ks r ∙ any-order ks js f g ∙ sym (run-lays t js q)
+  pub any-layer-calls : layerTests s y true ≡ value tt → {m n : Lines} (ks js : List ℕ) → AllFive ks → AllFive js → Run ks m → Run js n → m ≡ n
+  any-layer-calls t ks js f g r q = run-lays t ks r ∙ any-order ks js f g ∙ sym (run-lays t js q)

@@ -98,11 +98,11 @@ module _ (s : Scene) (y : ℕ) where
   mode = s .regs .bgmode
 
   -- the priorities of layer k
-  abbrev ownOf : ℕ → List ℕ
-  ownOf k = getD (layerPriorities (modeRows mode)) k []
+  abbrev prioritiesFor : ℕ → List ℕ
+  prioritiesFor k = getD (layerPriorities (modeRows mode)) k []
 
   priorities-low : (k : ℕ) → k < 4 → bgModeOf mode k .present ≡ true →
-      bgModeOf mode k .low ∷ bgModeOf mode k .high ∷ [] ≡ ownOf k
+      bgModeOf mode k .low ∷ bgModeOf mode k .high ∷ [] ≡ prioritiesFor k
   unfolding bgModeOf
   priorities-low k h e =
       let rows = modeRows mode in
@@ -111,7 +111,7 @@ module _ (s : Scene) (y : ℕ) where
       (λ i. priorities (sym e i) (m .low) (m .high))
       ∙ sym (List·getD-append (map prioritiesOf rows) (spritePriorities ∷ []) [] k long ∙ getD-map prioritiesOf rows k lacks)
 
-  priorities-four : (k : ℕ) → k ≡ 4 → spritePriorities ≡ ownOf k
+  priorities-four : (k : ℕ) → k ≡ 4 → spritePriorities ≡ prioritiesFor k
   priorities-four k e =
       sym (getD-at (map prioritiesOf (modeRows mode)) spritePriorities [] [] k (rw length-map (four-rows mode ∙ sym e)))
 
@@ -130,7 +130,7 @@ module _ (s : Scene) (y : ℕ) where
     candidate x k = onScreen (on (layerShown s k) x) (layerPixel s y k x)
 
     abbrev Own : ℕ → Candidate → Type 0
-    Own k c = c .opaque ≡ true → holds (ownOf k) (c .pixel .z .0) ≡ true
+    Own k c = c .opaque ≡ true → holds (prioritiesFor k) (c .pixel .z .0) ≡ true
 
     own-low : (k x : ℕ) → k < 4 →
         Own k (onScreen (on (bgShown s k) x) (bgAt s y k x))
@@ -167,7 +167,7 @@ module _ (s : Scene) (y : ℕ) where
     no-ties : (x : ℕ) → NoTies (candidate x)
     no-ties x j k o n e =
         one-place (layerPriorities (modeRows mode)) (nearness (candidate x) k) j k (no-shared-priority mode)
-        ((λ i. holds (ownOf j) (sym e i)) ∙ own x j o) (own x k n)
+        ((λ i. holds (prioritiesFor j) (sym e i)) ∙ own x j o) (own x k n)
 
     -- and only the five layers have candidates
     below : (x k : ℕ) → Has (candidate x) k → k < 5
@@ -180,11 +180,11 @@ module _ (s : Scene) (y : ℕ) where
             absurd (false≢true (subst (λ (c : Candidate). c .opaque ≡ true) (λ i. onScreen (on (layerShown s k) x) (gone i x)) o))
 
   only-main : (k x : ℕ) → onMain (bgShown s k) x ≡ true → bgModeOf mode k .present ≡ true
-  unfolding background.shownOf paramsOf
+  unfolding background.bgShownBy paramsOf
   only-main k x e = and-eq-true-iff (bgModeOf mode k .present) (bitOf (s .regs .tm) k) .0 (and-eq-true-iff _ _ .0 e .0) .0
 
   only-sub : (k x : ℕ) → onSub (bgShown s k) x ≡ true → bgModeOf mode k .present ≡ true
-  unfolding background.shownOf paramsOf
+  unfolding background.bgShownBy paramsOf
   only-sub k x e = and-eq-true-iff (bgModeOf mode k .present) (bitOf (s .regs .ts) k) .0 (and-eq-true-iff _ _ .0 e .0) .0
 
   -- No two candidates at a pixel of the main screen tie, whatever the mode; nor on the sub screen.

@@ -11,13 +11,13 @@ ghost use Rattle.row_tests.specs.Tests.{SceneTested};
 ghost use Rattle.modes.specs.Modes.{paramsOf};
 ghost use Rattle.laying.specs.Laying.{layLines};
 ghost use Rattle.bg_row.specs.Row.{bgPixel};
-ghost use Rattle.background.specs.Background.{shownOf};
+ghost use Rattle.background.specs.Background.{bgShownBy};
 ghost use Rattle.layers.specs.Layers.{scene, layerCandidates, layered};
 
 // Both lines after background bg is laid. Where neither screen lights it, nothing is drawn.
 fn lay_bg(lines: Lines, vram: &[u16], cgram: &[u16], r: PPURegisters, y: usize, bg: usize) -> Lines
     requires { ⌜ (length (now cgram) ≡ 256) × ((y < 224) × (bg < 4)) ⌝ }
-    ensures { λ o. ⌜ o ≡ layLines (shownOf r (paramsOf r bg)) (bgPixel (now (vram .entry)) (now (cgram .entry)) r (paramsOf r bg) y) lines ⌝ }
+    ensures { λ o. ⌜ o ≡ layLines (bgShownBy r (paramsOf r bg)) (bgPixel (now (vram .entry)) (now (cgram .entry)) r (paramsOf r bg) y) lines ⌝ }
 {
     let p = bg_params(r, bg);
     if !p.to_main & !p.to_sub {

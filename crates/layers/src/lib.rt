@@ -14,7 +14,7 @@ use registers::constants::SCREEN_WIDTH;
 use row_tests::inner::layer_tested;
 ghost use mathlib.Core.Path.{_≡_};
 ghost use Rattle.laying.specs.Answers.{candidatesMean, linesMean};
-ghost use Rattle.layers.specs.Layers.{scene, backdropOutcome, candidatesAnswer, layerOutcome};
+ghost use Rattle.layers.specs.Layers.{scene, backdropOutcome, layerCandidatesAnswer, layerOutcome};
 
 // Both lines of a row before any layer is laid. On a refusal they are black.
 pub fn backdrop_lines(cgram: &[u16], r: PPURegisters) -> LinesAnswer
@@ -79,7 +79,7 @@ pub fn layer_candidates(
     y: usize,
     layer: usize,
 ) -> CandidatesAnswer
-    ensures { λ a. ⌜ candidatesMean a ≡ candidatesAnswer (scene r (now (vram .entry)) (now (cgram .entry)) (now (oam .entry))) x y layer ⌝ }
+    ensures { λ a. ⌜ candidatesMean a ≡ layerCandidatesAnswer (scene r (now (vram .entry)) (now (cgram .entry)) (now (oam .entry))) x y layer ⌝ }
 {
     let in_range = (x < SCREEN_WIDTH) & (layer < LAYERS);
     match layer_tested(

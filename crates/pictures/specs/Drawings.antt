@@ -16,7 +16,7 @@ use Rattle.lists.specs.Each.{Each}
 use Rattle.lists.specs.Keep.{keep, keep-yes, kept-in, in-kept}
 use Rattle.row_tests.specs.Tests.{drawTests}
 use Rattle.layers.specs.Layers.{Scene}
-use Rattle.renderer.specs.Renderer.{rowOf, length-row, withRow, pictureOutcome}
+use Rattle.renderer.specs.Renderer.{sceneRow, length-row, withRow, pictureOutcome}
 use Rattle.pictures.specs.Pictures.{rowPart}
 use Rattle.pictures.specs.Parts.{Whole, one-picture, whole-with, own-row, other-row}
 
@@ -26,7 +26,7 @@ pub record Drawing : Type 0 where
   pub row : ℕ
 
 abbrev pub bytesOf : Drawing → List ℕ
-bytesOf d = rowOf (d .scene) (d .row)
+bytesOf d = sceneRow (d .scene) (d .row)
 
 -- a picture after the drawings ds, in that order
 unfoldable pub drawAll : List Drawing → List ℕ → List ℕ
@@ -123,11 +123,11 @@ drawn-again ds d p w r h = last-shows (ds ++ d ∷ []) p w r (d .row) h ∙ ends
 
 -- The same of calls of `render_into_picture` with any drawings ds: each takes the picture that the one before left, and enters
 -- by its contract alone.
-pub data Calls : List ℕ → List Drawing → List ℕ → Type 0 where
-  none : {p : List ℕ} → Calls p [] p
+pub data DrawCalls : List ℕ → List Drawing → List ℕ → Type 0 where
+  none : {p : List ℕ} → DrawCalls p [] p
   call : {p q : List ℕ} {d : Drawing} {ds : List Drawing} (v : Verdict) (after : List ℕ) →
       _≡_ {A = Outcome Unit (List ℕ)} (record { said = verdictMeans v; left = after }) (pictureOutcome (d .scene) (d .row) p) →
-      Calls after ds q → Calls p (d ∷ ds) q
+      DrawCalls after ds q → DrawCalls p (d ∷ ds) q
 
 abbrev pub accepts : Answer Unit → Bool
 accepts (value _) = true
@@ -172,7 +172,7 @@ module _ {q after : List ℕ} (p : List ℕ) (d : Drawing) (ds : List Drawing) (
   then-draw (refused n) b is = later (ap (λ (l : List ℕ). length l) is ∙ w) ∙ ap (drawAll (accepted ds)) is
 
 -- so the calls leave what their drawings leave
-pub calls-draw : {p q : List ℕ} (ds : List Drawing) → Whole p → Calls p ds q → q ≡ drawAll (accepted ds) p
+pub calls-draw : {p q : List ℕ} (ds : List Drawing) → Whole p → DrawCalls p ds q → q ≡ drawAll (accepted ds) p
 unfolding drawAll keep
 calls-draw [] w none = refl
 calls-draw {p} (d ∷ ds) w (call v after c r) =
@@ -181,13 +181,13 @@ calls-draw {p} (d ∷ ds) w (call v after c r) =
     ((λ i. c i .left) ∙ (λ i. outcome {A = Unit} (test (eq-eqb (length p) 172032 w i)) tt (withRow p (d .row) (bytesOf d)) p .left))
 
 -- Each row of the picture that calls leave shows its last drawing, or what it showed before where it was not drawn.
-pub calls-show : {p q : List ℕ} (ds : List Drawing) → Whole p → Calls p ds q → (y : ℕ) → y < 224 →
+pub calls-show : {p q : List ℕ} (ds : List Drawing) → Whole p → DrawCalls p ds q → (y : ℕ) → y < 224 →
     rowPart q y ≡ lastOf (accepted ds) y (rowPart p y)
 calls-show {p} ds w c y h =
     ap (λ (l : List ℕ). rowPart l y) (calls-draw ds w c) ∙ last-shows (accepted ds) p w (rows-below ds) y h
 
 -- So a row that the last call draws again shows that drawing,
-pub calls-drawn-again : {p q : List ℕ} (ds : List Drawing) (d : Drawing) → Whole p → drawable d ≡ true → Calls p (ds ++ d ∷ []) q →
+pub calls-drawn-again : {p q : List ℕ} (ds : List Drawing) (d : Drawing) → Whole p → drawable d ≡ true → DrawCalls p (ds ++ d ∷ []) q →
     rowPart q (d .row) ≡ bytesOf d
 calls-drawn-again {p} ds d w e c =
     calls-show (ds ++ d ∷ []) w c (d .row) (row-below d e)
@@ -195,9 +195,9 @@ calls-drawn-again {p} ds d w e c =
     ∙ ends (accepted ds) d (rowPart p (d .row))
 
 -- and the order of calls with different rows never shows.
-pub any-calls : {p q r : List ℕ} (ds es : List Drawing) → Whole p → DifferentRows ds → Within ds es → Within es ds →
-    Calls p ds q → Calls p es r → q ≡ r
-any-calls {p} ds es w one to back c r =
+pub any-draw-calls : {p q r : List ℕ} (ds es : List Drawing) → Whole p → DifferentRows ds → Within ds es → Within es ds →
+    DrawCalls p ds q → DrawCalls p es r → q ≡ r
+any-draw-calls {p} ds es w one to back c r =
     let apart : DifferentRows (accepted ds) = λ d e m n. one d e (kept-in drawable ds m .0) (kept-in drawable ds n .0) in
     calls-draw ds w c
     ∙ any-drawing-order (accepted ds) (accepted es) p w (rows-below ds) (rows-below es) apart

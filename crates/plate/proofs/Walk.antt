@@ -13,7 +13,7 @@ use borrow.Author.Tests.{ltb-true, ltb-false}
 use Rattle.registers.specs.declared.PPURegisters.{PPURegisters}
 use Rattle.registers.specs.Replaced.{withCounter}
 use Rattle.registers.specs.Scene.{Scene, scene}
-use Rattle.renderer.specs.Renderer.{rowOf, length-row}
+use Rattle.renderer.specs.Renderer.{sceneRow, length-row}
 use Rattle.plate.specs.Frame.{counterAfter, counterAt, frameRow, plateHeader, rowsOf, plateOf, Part, Reached, Taken}
 
 module _ (s : Scene) where
@@ -73,11 +73,11 @@ module _ (s : Scene) where
 
   -- a row that is drawn with its counter is the frame's, and the next row has the counter after it
   pub row-drawn : (y : ℕ) {row : List ℕ} {counter after : ℕ} {r : PPURegisters} → r ≡ withCounter counter (s .regs) →
-      counter ≡ counterAt (s .regs) y → row ≡ rowOf (scene r (s .vram) (s .cgram) (s .oam)) y →
+      counter ≡ counterAt (s .regs) y → row ≡ sceneRow (scene r (s .vram) (s .cgram) (s .oam)) y →
       after ≡ counterAfter (s .regs) counter → (row ≡ frameRow s y) × (after ≡ counterAt (s .regs) (y + 1))
   unfolding counterAt frameRow
   row-drawn y e w d n = (
-    d ∙ ap (λ (q : PPURegisters). rowOf (scene q (s .vram) (s .cgram) (s .oam)) y) (e ∙ ap (λ (k : ℕ). withCounter k (s .regs)) w),
+    d ∙ ap (λ (q : PPURegisters). sceneRow (scene q (s .vram) (s .cgram) (s .oam)) y) (e ∙ ap (λ (k : ℕ). withCounter k (s .regs)) w),
     rw (add-one y) (n ∙ ap (counterAfter (s .regs)) w),
   )
 

@@ -9,17 +9,17 @@ use Rattle.registers.specs.Bits.{bitOf}
 use Rattle.registers.specs.Screen.{brightnessOf}
 use Rattle.registers.specs.Replaced.{withCounter}
 use Rattle.registers.specs.Scene.{Scene, scene}
-use Rattle.composite.specs.Composite.{colourAt, byteAt, blackRow, rowBytes}
-use Rattle.renderer.specs.Renderer.{linesOf, rowOf}
+use Rattle.composite.specs.Composite.{colourAt, rowByteAt, blackRow, rowBytes}
+use Rattle.renderer.specs.Renderer.{sceneLines, sceneRow}
 use Rattle.plate.specs.Frame.{counterAt, frameRow, plateHeader, rowsOf, plateOf}
 
 -- with inidisp 128 every row is black
 pub blank-frame : (s : Scene) (y : ℕ) → s .regs .inidisp ≡ 128 → frameRow s y ≡ blackRow
-unfolding frameRow rowOf rowBytes
+unfolding frameRow sceneRow rowBytes
 blank-frame s y e =
     let r = withCounter (counterAt (s .regs) y) (s .regs) in
     let at = scene r (s .vram) (s .cgram) (s .oam) in
-    λ i. cond (bitOf (e i) 7) blackRow (tab 768 (byteAt (colourAt r (linesOf at y)) (brightnessOf r)))
+    λ i. cond (bitOf (e i) 7) blackRow (tab 768 (rowByteAt (colourAt r (sceneLines at y)) (brightnessOf r)))
 
 -- so many rows are so many zeros
 blank-rows : (s : Scene) → s .regs .inidisp ≡ 128 → (n : ℕ) → rowsOf s n ≡ tab (n * 768) (λ i. 0)

@@ -10,7 +10,7 @@ use Rattle.registers.specs.declared.PPURegisters.{PPURegisters}
 use Rattle.registers.specs.Replaced.{withCounter}
 use Rattle.registers.specs.Scene.{Scene, scene}
 use Rattle.mosaic.specs.Mosaic.{mosaicSize}
-use Rattle.renderer.specs.Renderer.{rowOf}
+use Rattle.renderer.specs.Renderer.{sceneRow}
 
 -- the counter after a row: 0 or 1 becomes the mosaic size, else it is one less
 abbrev pub counterAfter : PPURegisters → ℕ → ℕ
@@ -23,7 +23,7 @@ counterAt r (suc y) = counterAfter r (counterAt r y)
 
 -- row y of the frame
 unfoldable pub frameRow : Scene → ℕ → List ℕ
-frameRow s y = rowOf (scene (withCounter (counterAt (s .regs) y) (s .regs)) (s .vram) (s .cgram) (s .oam)) y
+frameRow s y = sceneRow (scene (withCounter (counterAt (s .regs) y) (s .regs)) (s .vram) (s .cgram) (s .oam)) y
 
 -- "P6", newline, "256 224", newline, "255", newline
 abbrev pub plateHeader : List ℕ

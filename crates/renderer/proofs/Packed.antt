@@ -30,7 +30,7 @@ use Rattle.packed_composite.specs.Blended.{blended}
 use Rattle.packed_composite.specs.Laws.{low16, blended-is, any-sub}
 use Rattle.packed_row.specs.Screens.{bgBarred, objBarred, insideAt, screenAt, colourOfRow}
 use Rattle.layers.specs.Layers.{Scene, layerShown, layerPixel}
-use Rattle.renderer.specs.Renderer.{linesOf}
+use Rattle.renderer.specs.Renderer.{sceneLines}
 
 -- a row is drawn where a screen lights its layer, and shows where this screen does
 on-first : (p a b m : Bool) (n : ℕ) → cond (not (a && m)) 0 (cond (p && a || p && b) n 0) ≡ cond (not ((p && a) && m)) 0 n
@@ -121,8 +121,8 @@ module _ (s : Scene) (y : ℕ) where
     main-at :
         screenAt (tab 256 (bgRow 0)) (tab 256 (bgRow 1)) (tab 256 (bgRow 2)) (tab 256 (bgRow 3)) (tab 256 spriteRow)
         (packed (backdropOf (getD (s .cgram) 0 0))) r (r .tm) (r .tmw) x
-        ≡ packed (getD (linesOf s y .main) x noPixel)
-    unfolding layAll layerShown layerPixel background.shownOf sprites.shownOf paramsOf
+        ≡ packed (getD (sceneLines s y .main) x noPixel)
+    unfolding layAll layerShown layerPixel background.bgShownBy sprites.spritesShown paramsOf
     main-at =
         line-at (r .tm) (r .tmw) (getD (s .cgram) 0 0) x h
         (λ k. let out = bitOf (r .tmw) k && masked (bgWindow r k) x in
@@ -135,8 +135,8 @@ module _ (s : Scene) (y : ℕ) where
     sub-at :
         screenAt (tab 256 (bgRow 0)) (tab 256 (bgRow 1)) (tab 256 (bgRow 2)) (tab 256 (bgRow 3)) (tab 256 spriteRow)
         (packed (backdropOf (r .coldata))) r (r .ts) (r .tsw) x
-        ≡ packed (getD (linesOf s y .sub) x noPixel)
-    unfolding layAll layerShown layerPixel background.shownOf sprites.shownOf paramsOf
+        ≡ packed (getD (sceneLines s y .sub) x noPixel)
+    unfolding layAll layerShown layerPixel background.bgShownBy sprites.spritesShown paramsOf
     sub-at =
         line-at (r .ts) (r .tsw) (r .coldata) x h
         (λ k. let out = bitOf (r .tsw) k && masked (bgWindow r k) x in
@@ -147,10 +147,10 @@ module _ (s : Scene) (y : ℕ) where
         ∙ barred-packed (bitOf (r .ts) 4 && not out) (spriteAt x))
 
     abbrev over-pixel : LinePixel
-    over-pixel = getD (linesOf s y .main) x noPixel
+    over-pixel = getD (sceneLines s y .main) x noPixel
 
     abbrev under-pixel : LinePixel
-    under-pixel = getD (linesOf s y .sub) x noPixel
+    under-pixel = getD (sceneLines s y .sub) x noPixel
 
     -- where colour math does not take the sub pixel, its line is not laid
     by-use : (u keep allowed : Bool) → bitOf (r .cgwsel) 1 ≡ u →
@@ -162,14 +162,14 @@ module _ (s : Scene) (y : ℕ) where
     pub colour-is :
         colourOfRow (tab 256 (bgRow 0)) (tab 256 (bgRow 1)) (tab 256 (bgRow 2)) (tab 256 (bgRow 3)) (tab 256 spriteRow)
         (packed (backdropOf (getD (s .cgram) 0 0))) r x
-        ≡ colourAt r (recolouredLines low16 (linesOf s y)) x
+        ≡ colourAt r (recolouredLines low16 (sceneLines s y)) x
     unfolding colourOfRow colourAt
     colour-is =
         let t = settingsOf r in
         let inside = insideAt r t x in
         let keep = region (t .«clip_mode») inside in
         let allowed = region (t .«math_region») inside in
-        let lines = linesOf s y in
+        let lines = sceneLines s y in
         let low : t .layers < 64 = omega arith in
         (λ i. blended t (main-at i) (cond (bitOf (r .cgwsel) 1) (sub-at i) 0) keep allowed)
         ∙ (by-use (bitOf (r .cgwsel) 1) keep allowed refl

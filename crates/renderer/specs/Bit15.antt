@@ -27,7 +27,7 @@ use Rattle.sprites.specs.Sprites.{viewOf, chosenSprites, spritePixel}
 use Rattle.layers.specs.Layers.{Scene, bgAt, spriteAt, layerShown, layerPixel, startLines}
 use Rattle.composite.specs.Composite.{rowBytes}
 use Rattle.composite.specs.Bit15.{row-blind}
-use Rattle.renderer.specs.Renderer.{linesOf, rowOf}
+use Rattle.renderer.specs.Renderer.{sceneLines, sceneRow}
 
 -- a colour with bit 15 cleared
 abbrev pub low15 : ℕ → ℕ
@@ -53,7 +53,7 @@ direct-kept i n = omega (arith, direct-clear i n)
 module _ (s : Scene) where
   -- the layers are shown where they were
   shown-kept : (k : ℕ) → layerShown (plain s) k ≡ layerShown s k
-  unfolding layerShown background.shownOf sprites.shownOf paramsOf windowOf
+  unfolding layerShown background.bgShownBy sprites.spritesShown paramsOf windowOf
   shown-kept k = refl
 
   -- a background's pixels are recoloured
@@ -82,17 +82,17 @@ module _ (s : Scene) where
       λ i. record { main = main i; sub = backdrop-recoloured low15 (s .regs .coldata) i }
 
   -- and after all five are
-  lines-plain : (y : ℕ) → linesOf (plain s) y ≡ recolouredLines low15 (linesOf s y)
+  lines-plain : (y : ℕ) → sceneLines (plain s) y ≡ recolouredLines low15 (sceneLines s y)
   lines-plain y =
       let ks : List ℕ = 0 ∷ 1 ∷ 2 ∷ 3 ∷ 4 ∷ [] in
       (λ i. layAll (λ k. shown-kept k i) (λ k x. pixel-plain y k x i) ks (start-plain i))
       ∙ laid-recoloured low15 refl (layerShown s) (layerPixel s y) ks (startLines s)
 
   -- a scene and the scene with bit 15 cleared give the same row
-  row-plain : (y : ℕ) → rowOf (plain s) y ≡ rowOf s y
-  unfolding rowOf
-  row-plain y = (λ i. rowBytes (plain s .regs) (lines-plain y i)) ∙ row-blind low15 refl same (s .regs) (linesOf s y)
+  row-plain : (y : ℕ) → sceneRow (plain s) y ≡ sceneRow s y
+  unfolding sceneRow
+  row-plain y = (λ i. rowBytes (plain s .regs) (lines-plain y i)) ∙ row-blind low15 refl same (s .regs) (sceneLines s y)
 
 -- Two scenes that are equal once bit 15 of every colour is cleared give the same rows.
-pub bit-15-never-shows : (s t : Scene) → plain s ≡ plain t → (y : ℕ) → rowOf s y ≡ rowOf t y
-bit-15-never-shows s t e y = sym (row-plain s y) ∙ ((λ i. rowOf (e i) y) ∙ row-plain t y)
+pub bit-15-never-shows : (s t : Scene) → plain s ≡ plain t → (y : ℕ) → sceneRow s y ≡ sceneRow t y
+bit-15-never-shows s t e y = sym (row-plain s y) ∙ ((λ i. sceneRow (e i) y) ∙ row-plain t y)

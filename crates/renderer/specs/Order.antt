@@ -11,7 +11,7 @@ use Rattle.line.specs.declared.Lines.{Lines}
 use Rattle.composite.specs.Composite.{rowBytes}
 use Rattle.layers.specs.Layers.{Scene}
 use Rattle.layers.specs.Order.{AllFive, linesAfter, any-order, Run, run-lays}
-use Rattle.renderer.specs.Renderer.{rowOf}
+use Rattle.renderer.specs.Renderer.{sceneRow}
 
 -- the order in which a row is drawn has all five
 all-five : AllFive (0 ∷ 1 ∷ 2 ∷ 3 ∷ 4 ∷ [])
@@ -23,11 +23,11 @@ all-five (suc (suc (suc (suc zero)))) h =
     List·Memᴰ·tail (List·Memᴰ·tail (List·Memᴰ·tail (List·Memᴰ·tail (List·Memᴰ·head refl))))
 all-five (suc (suc (suc (suc (suc k))))) h = absurd (omega arith)
 
-pub row-of-any-order : (s : Scene) (y : ℕ) (ks : List ℕ) → AllFive ks → rowBytes (s .regs) (linesAfter s y ks) ≡ rowOf s y
-unfolding rowOf
+pub row-of-any-order : (s : Scene) (y : ℕ) (ks : List ℕ) → AllFive ks → rowBytes (s .regs) (linesAfter s y ks) ≡ sceneRow s y
+unfolding sceneRow
 row-of-any-order s y ks m = ap (rowBytes (s .regs)) (any-order s y ks (0 ∷ 1 ∷ 2 ∷ 3 ∷ 4 ∷ []) m all-five)
 
 -- and so do the lines that any calls of `render_layer` leave, with each of the five layers at least once
 pub row-of-any-calls : (s : Scene) (y : ℕ) → layerTests s y true ≡ value tt → {m : Lines} (ks : List ℕ) → AllFive ks → Run s y ks m →
-    rowBytes (s .regs) m ≡ rowOf s y
+    rowBytes (s .regs) m ≡ sceneRow s y
 row-of-any-calls s y t ks f r = ap (rowBytes (s .regs)) (run-lays s y t ks r) ∙ row-of-any-order s y ks f

@@ -37,10 +37,10 @@ use Rattle.sprite_fetch.specs.Fetch.{linePixel}
 use Rattle.sprites.specs.Sprites as sprites
 use Rattle.modes.specs.Modes.{mode0, mode1, mode3, lacks, modeRows, bgModeOf, paramsOf}
 use Rattle.blend.specs.Blend.{colourOf}
-use Rattle.composite.specs.Composite.{colourAt, byteAt, blackRow, rowBytes}
+use Rattle.composite.specs.Composite.{colourAt, rowByteAt, blackRow, rowBytes}
 use Rattle.layers.specs.Layers.{Scene, scene, layerShown, layerPixel, startLines}
 use Rattle.layers.specs.Numbers.{shown-low, pixel-low, shown-four, pixel-four}
-use Rattle.renderer.specs.Renderer.{linesOf, rowOf}
+use Rattle.renderer.specs.Renderer.{sceneLines, sceneRow}
 
 -- background b's own register bits
 pub record Own : Type 0 where
@@ -192,8 +192,8 @@ module _ (r q : PPURegisters) (e : sharedOf r ≡ sharedOf q) where
         ((pos (y + 1) -ℤ cond (p .mosaic) (pos (e i .size + 1) -ℤ pos (e i .counter)) (pos 0)) +ℤ pos (p .«scroll_y»))
         (extentOf (p .h64) (p .tile16)))
 
-    same-shown : k < 4 → background.shownOf r (paramsOf r k) ≡ background.shownOf q (paramsOf q k)
-    unfolding background.shownOf paramsOf windowOf
+    same-shown : k < 4 → background.bgShownBy r (paramsOf r k) ≡ background.bgShownBy q (paramsOf q k)
+    unfolding background.bgShownBy paramsOf windowOf
     same-shown h =
         let n = number-back k h in
         let plain : PPURegisters → Shown = λ (t : PPURegisters).
@@ -204,7 +204,7 @@ module _ (r q : PPURegisters) (e : sharedOf r ≡ sharedOf q) where
           «win_sub» = bitOf (t .tsw) k;
           window = bgWindow t k;
         } in
-        let by-number : (t : PPURegisters) → background.shownOf t (paramsOf t k) ≡ plain t = λ t.
+        let by-number : (t : PPURegisters) → background.bgShownBy t (paramsOf t k) ≡ plain t = λ t.
         λ i. record {
           «to_main» = paramsOf t k .«to_main»;
           «to_sub» = paramsOf t k .«to_sub»;
@@ -234,8 +234,8 @@ module _ (r q : PPURegisters) (e : sharedOf r ≡ sharedOf q) where
       (take spriteLimit (found oam y (e i .objsel) (bitOf (e i .setini) 1) (searchOrder (e i .oamadd)))))
       x
 
-  same-sprites-shown : sprites.shownOf r ≡ sprites.shownOf q
-  unfolding sprites.shownOf windowOf
+  same-sprites-shown : sprites.spritesShown r ≡ sprites.spritesShown q
+  unfolding sprites.spritesShown windowOf
   same-sprites-shown =
       λ i. record {
         «to_main» = bitOf (e i .tm) 4;
@@ -253,7 +253,7 @@ module _ (r q : PPURegisters) (e : sharedOf r ≡ sharedOf q) where
       let s = e i in
       cond (bitOf (s .inidisp) 7) blackRow
       (tab 768
-      (byteAt
+      (rowByteAt
       (λ x.
       colourOf
       (record {
@@ -317,8 +317,8 @@ module _ (b : ℕ) (r q : PPURegisters) (shared : sharedOf r ≡ sharedOf q)
   AlikeHere k = Alike (layerShown one) (layerShown two) (layerPixel one y) (layerPixel two y) k
 
   -- the unlit one
-  off : (t : PPURegisters) (k : ℕ) → Unlit t k → Dark (background.shownOf t (paramsOf t k))
-  unfolding background.shownOf paramsOf
+  off : (t : PPURegisters) (k : ℕ) → Unlit t k → Dark (background.bgShownBy t (paramsOf t k))
+  unfolding background.bgShownBy paramsOf
   off t k u = u
 
   alike : (k : ℕ) → k < 4 → AlikeHere k
@@ -344,7 +344,7 @@ module _ (b : ℕ) (r q : PPURegisters) (shared : sharedOf r ≡ sharedOf q)
       (sym (shown-four one 4 refl) ∙ (same-sprites-shown r q shared ∙ shown-four two 4 refl))
       (sym (pixel-four one 4 y refl) ∙ ((λ i x. same-sprites r q shared v g oam y x i) ∙ pixel-four two 4 y refl))
 
-  same-lines : linesOf one y ≡ linesOf two y
+  same-lines : sceneLines one y ≡ sceneLines two y
   same-lines =
       alike-lines (layerShown one) (layerShown two) (layerPixel one y) (layerPixel two y) (0 ∷ 1 ∷ 2 ∷ 3 ∷ 4 ∷ [])
       (alike 0 (omega arith), (alike 1 (omega arith), (alike 2 (omega arith), (alike 3 (omega arith), (alike-sprites, tt)))))
@@ -352,6 +352,6 @@ module _ (b : ℕ) (r q : PPURegisters) (shared : sharedOf r ≡ sharedOf q)
       ∙ (λ i. layAll (layerShown two) (layerPixel two y) (0 ∷ 1 ∷ 2 ∷ 3 ∷ 4 ∷ []) (backdropLines (getD g 0 0) (shared i .coldata)))
 
   -- Where background b is lit on neither screen, its own bits never change the row.
-  pub unlit-never-shows : rowOf one y ≡ rowOf two y
-  unfolding rowOf
+  pub unlit-never-shows : sceneRow one y ≡ sceneRow two y
+  unfolding sceneRow
   unlit-never-shows = same-bytes r q shared same-lines

@@ -39,8 +39,8 @@ unfoldable pub spritePixel : List ℕ → List ℕ → List ℕ → PPURegisters
 spritePixel v g oam r y x = linePixel v g (viewOf r y) tileLimit (chosenSprites oam r y) x
 
 -- where the sprites are shown: their window, and bit 4 of tm, ts, tmw and tsw
-unfoldable pub shownOf : PPURegisters → Shown
-shownOf r = record {
+unfoldable pub spritesShown : PPURegisters → Shown
+spritesShown r = record {
   «to_main» = bitOf (r .tm) 4;
   «to_sub» = bitOf (r .ts) 4;
   «win_main» = bitOf (r .tmw) 4;
@@ -58,11 +58,11 @@ spriteLineOutcome v g oam r y =
     outcome (layerTests (scene r v g oam) y true) tt (tab 256 (spritePixel v g oam r y)) emptyLine
 
 -- the candidates at column x of row y
-abbrev pub candidatesAnswer : List ℕ → List ℕ → List ℕ → PPURegisters → ℕ → ℕ → Answer Candidates
-candidatesAnswer v g oam r x y =
-    layerTests (scene r v g oam) y (ltb x 256) andThen value (candidatesOf (shownOf r) x (spritePixel v g oam r y x))
+abbrev pub spriteCandidatesAnswer : List ℕ → List ℕ → List ℕ → PPURegisters → ℕ → ℕ → Answer Candidates
+spriteCandidatesAnswer v g oam r x y =
+    layerTests (scene r v g oam) y (ltb x 256) andThen value (candidatesOf (spritesShown r) x (spritePixel v g oam r y x))
 
 -- both lines after row y is laid over them
-abbrev pub linesOutcome : List ℕ → List ℕ → List ℕ → PPURegisters → ℕ → Lines → Outcome Unit Lines
-linesOutcome v g oam r y lines =
-    outcome (layerTests (scene r v g oam) y true) tt (layLines (shownOf r) (spritePixel v g oam r y) lines) lines
+abbrev pub spritesLaidOutcome : List ℕ → List ℕ → List ℕ → PPURegisters → ℕ → Lines → Outcome Unit Lines
+spritesLaidOutcome v g oam r y lines =
+    outcome (layerTests (scene r v g oam) y true) tt (layLines (spritesShown r) (spritePixel v g oam r y) lines) lines

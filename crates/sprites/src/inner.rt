@@ -16,7 +16,7 @@ ghost use lib.ListN.{length};
 ghost use Rattle.lists.specs.Tab.{tab};
 ghost use Rattle.row_tests.specs.Tests.{SceneTested};
 ghost use Rattle.laying.specs.Laying.{candidatesOf, layLines};
-ghost use Rattle.sprites.specs.Sprites.{viewOf, chosenSprites, spritePixel, shownOf, emptyLine};
+ghost use Rattle.sprites.specs.Sprites.{viewOf, chosenSprites, spritePixel, spritesShown, emptyLine};
 ghost use Rattle.sprite_fetch.specs.Fetch.{fetched};
 ghost use Rattle.sprite_fetch.specs.Walk.{fetchedList, AllSound};
 
@@ -65,7 +65,7 @@ pub fn line(vram: &[u16], cgram: &[u16], oam: &[u8], r: PPURegisters, y: usize) 
 
 // Where the sprites are shown.
 fn shown(r: PPURegisters) -> Shown
-    ensures { λ s. ⌜ s ≡ shownOf r ⌝ }
+    ensures { λ s. ⌜ s ≡ spritesShown r ⌝ }
 {
     let window = windows::inner::obj_window(r);
     Shown {
@@ -87,7 +87,7 @@ pub fn candidates(
     y: usize,
 ) -> Candidates
     requires { ⌜ SceneTested (length (now cgram)) (length (now oam)) y × (x < 256) ⌝ }
-    ensures { λ c. ⌜ c ≡ candidatesOf (shownOf r) x (spritePixel (now (vram .entry)) (now (cgram .entry)) (now (oam .entry)) r y x) ⌝ }
+    ensures { λ c. ⌜ c ≡ candidatesOf (spritesShown r) x (spritePixel (now (vram .entry)) (now (cgram .entry)) (now (oam .entry)) r y x) ⌝ }
 {
     let line = line(vram, cgram, oam, r, y);
     laying::inner::on_screens(line[x], shown(r), x)
@@ -103,7 +103,7 @@ pub fn lay(
     y: usize,
 ) -> Lines
     requires { ⌜ SceneTested (length (now cgram)) (length (now oam)) y ⌝ }
-    ensures { λ o. ⌜ o ≡ layLines (shownOf r) (spritePixel (now (vram .entry)) (now (cgram .entry)) (now (oam .entry)) r y) lines ⌝ }
+    ensures { λ o. ⌜ o ≡ layLines (spritesShown r) (spritePixel (now (vram .entry)) (now (cgram .entry)) (now (oam .entry)) r y) lines ⌝ }
 {
     let shown = shown(r);
     if !shown.to_main & !shown.to_sub {

@@ -12,7 +12,7 @@ use registers::constants::SCREEN_WIDTH;
 use row_tests::inner::layer_tested;
 ghost use mathlib.Core.Path.{_≡_};
 ghost use Rattle.laying.specs.Answers.{candidatesMean, linesMean};
-ghost use Rattle.sprites.specs.Sprites.{spriteLineOutcome, candidatesAnswer, linesOutcome};
+ghost use Rattle.sprites.specs.Sprites.{spriteLineOutcome, spriteCandidatesAnswer, spritesLaidOutcome};
 ghost use Rattle.sprites.specs.Answers.{spriteLineMeans};
 
 // The verdict on a call, and the sprite line: on a refusal a line with no pixel.
@@ -66,7 +66,7 @@ pub fn sprite_candidates(
     x: usize,
     y: usize,
 ) -> CandidatesAnswer
-    ensures { λ a. ⌜ candidatesMean a ≡ candidatesAnswer (now (vram .entry)) (now (cgram .entry)) (now (oam .entry)) r x y ⌝ }
+    ensures { λ a. ⌜ candidatesMean a ≡ spriteCandidatesAnswer (now (vram .entry)) (now (cgram .entry)) (now (oam .entry)) r x y ⌝ }
 {
     let column = x < SCREEN_WIDTH;
     match layer_tested(
@@ -91,7 +91,7 @@ pub fn render_sprites(
     r: PPURegisters,
     y: usize,
 ) -> LinesAnswer
-    ensures { λ a. ⌜ linesMean a ≡ linesOutcome (now (vram .entry)) (now (cgram .entry)) (now (oam .entry)) r y lines ⌝ }
+    ensures { λ a. ⌜ linesMean a ≡ spritesLaidOutcome (now (vram .entry)) (now (cgram .entry)) (now (oam .entry)) r y lines ⌝ }
 {
     match layer_tested(
         y,

@@ -12,21 +12,21 @@ use Rattle.pictures.proofs.picture_row.Statement.{statement}
 use Rattle.pictures.proofs.picture_row.Tie as tie
 
 -- what the tests leave
-sound : (c : tie.After-enum-told) → let a = c .before .before .before .before .before .args in
+tested : (c : tie.After-enum-told) → let a = c .before .before .before .before .before .args in
     PicturesTested (length (now (a .first))) (length (now (a .second))) (a .choice) (a .y)
-sound c = c .before .before .tested .ensures .1 (passed (c .enum-told .given .1))
+tested c = c .before .before .tested .ensures .1 (passed (c .enum-told .given .1))
 
 mul-start : tie.Need-mul-start
-mul-start c = omega (arith, sound c .row)
+mul-start c = omega (arith, tested c .row)
 
 add-end : tie.Need-add-end
-add-end c = omega (arith, sound c .row)
+add-end c = omega (arith, tested c .row)
 
 part-result-end : tie.Need-part-result-end
-part-result-end c = let h = sound (c .before) in let r = h .row in let w = h .whole in omega arith
+part-result-end c = let h = tested (c .before) in let r = h .row in let w = h .whole in omega arith
 
 part-result-end-2 : tie.Need-part-result-end-2
-part-result-end-2 c = let h = sound (c .before) in let r = h .row in let w = h .whole-2 in omega arith
+part-result-end-2 c = let h = tested (c .before) in let r = h .row in let w = h .whole-2 in omega arith
 
 returns : tie.Need-returns
 returns c =

@@ -15,15 +15,15 @@ use Rattle.renderer.proofs.render_into_picture.Statement.{statement}
 use Rattle.renderer.proofs.render_into_picture.Tie as tie
 
 -- what the tests leave
-sound : (c : tie.After-enum-told) → let a = c .before .before .before .before .before .before .before .args in
+tested : (c : tie.After-enum-told) → let a = c .before .before .before .before .before .before .before .args in
     SceneTested (length (now (a .cgram))) (length (now (a .oam))) (a .y)
-sound c = c .before .before .draw-tested .ensures .1 (passed (c .enum-told .given .1)) .0
+tested c = c .before .before .draw-tested .ensures .1 (passed (c .enum-told .given .1)) .0
 
 whole : (c : tie.After-enum-told) → length (now (c .before .before .before .before .before .before .before .args .picture)) ≡ 172032
 whole c = eqb-true _ 172032 (c .before .before .draw-tested .ensures .1 (passed (c .enum-told .given .1)) .1)
 
 row : (c : tie.After-enum-told) → c .before .before .before .before .before .before .before .args .y < 224
-row c = sound c .row
+row c = tested c .row
 
 mul-start : tie.Need-mul-start
 mul-start c = omega (arith, row c)
@@ -43,7 +43,7 @@ render-requires c κs =
     let start = a .y * 768 in
     let end : start + 768 ≤ length (now (a .picture)) = omega arith in
     let long : start + 768 - start ≡ 768 = omega arith in
-    (sound e, sym (part-count (now (a .picture)) start (start + 768) (omega arith, end)) ∙ long)
+    (tested e, sym (part-count (now (a .picture)) start (start + 768) (omega arith, end)) ∙ long)
 
 returns : tie.Need-returns
 unfolding withRow

@@ -1,4 +1,4 @@
-use Rattle.background.specs.Background.{shownOf}
+use Rattle.background.specs.Background.{bgShownBy}
 use Rattle.bg_row.specs.Row.{bgPixel}
 use Rattle.laying.proofs.Screens.{lay-row}
 use Rattle.laying.specs.Laying.{layLines, rowOf}
@@ -14,7 +14,7 @@ returns c =
     let a = w .before .before .before .args in
     c .lay .ensures
     ∙ ((λ i. layLines (c .before .shown .ensures i) (rowOf (w .row .ensures i)) (a .lines))
-    ∙ lay-row (shownOf (a .r) (a .p)) (bgPixel (now (a .vram)) (now (a .cgram)) (a .r) (a .p) (a .y)) (a .lines))
+    ∙ lay-row (bgShownBy (a .r) (a .p)) (bgPixel (now (a .vram)) (now (a .cgram)) (a .r) (a .p) (a .y)) (a .lines))
 
 pub lay-spec : {M : Type 1} → statement M
 lay-spec = tie.close (tie.spec (λ c κs. search needs) (λ c κs. search needs) (λ c κs. search needs) returns)

@@ -1,4 +1,4 @@
-use Rattle.background.specs.Background.{shownOf}
+use Rattle.background.specs.Background.{bgShownBy}
 use Rattle.windows.specs.Windows.{bgWindow}
 use Rattle.registers.specs.Bits.{bitOf}
 use mathlib.Core.Path.{_∙_}
@@ -7,7 +7,7 @@ use Rattle.background.proofs.inner.shown.Statement.{statement}
 use Rattle.background.proofs.inner.shown.Tie as tie
 
 returns : tie.Need-returns
-unfolding shownOf
+unfolding bgShownBy
 returns c =
     let w = c .before .before in
     let b = w .before in

@@ -5,13 +5,13 @@ use native.Mathlib.Omega.{arith}
 use lib.ListN.{getD, length-set}
 use Rattle.lists.specs.Filling.{Front, front-none, front-more, front-at, front-all}
 use Rattle.colour.specs.Colour.{brightnessOf}
-use Rattle.composite.specs.Composite.{byteAt}
+use Rattle.composite.specs.Composite.{rowByteAt}
 use Rattle.composite.proofs.Bytes.{byte-is}
 use Rattle.composite.proofs.inner.brighten.Statement.{statement}
 use Rattle.composite.proofs.inner.brighten.Tie as tie
 
 abbrev Inv-loop : tie.InvT-loop
-Inv-loop row₀ brightness colors x₀ row x = Front 768 (byteAt (λ k. getD colors k 0) brightness) row (x * 3)
+Inv-loop row₀ brightness colors x₀ row x = Front 768 (rowByteAt (λ k. getD colors k 0) brightness) row (x * 3)
 
 abbrev μ-loop : tie.MeasureT-loop
 μ-loop row₀ brightness colors x₀ row x = 256 - x

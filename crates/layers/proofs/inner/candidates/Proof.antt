@@ -2,10 +2,10 @@ use denote.Ref.{now}
 use mathlib.Core.Path.{_∙_}
 use Rattle.laying.specs.Laying.{candidatesOf}
 use Rattle.bg_row.specs.Row.{bgPixel}
-use Rattle.background.specs.Background.{shownOf}
+use Rattle.background.specs.Background.{bgShownBy}
 use Rattle.layers.specs.Layers.{scene}
 use Rattle.layers.specs.Numbers.{shown-low, pixel-low, shown-four, pixel-four}
-use Rattle.layers.proofs.Numbers.{sound, is-four}
+use Rattle.layers.proofs.Numbers.{bg-tested, is-four}
 use borrow.Author.Needs.{needs}
 use Rattle.layers.proofs.inner.candidates.Statement.{statement}
 use Rattle.layers.proofs.inner.candidates.Tie as tie
@@ -14,7 +14,7 @@ candidates-requires : tie.Need-candidates-requires
 candidates-requires c κs =
     let s = c .before .before .before .before .before in
     let p = s .pre in
-    (sound (s .args .r) (s .args .layer) (p .0 .palettes) (p .0 .row) (c .bg-params .ensures), p .1 .0)
+    (bg-tested (s .args .r) (s .args .layer) (p .0 .palettes) (p .0 .row) (c .bg-params .ensures), p .1 .0)
 
 returns : tie.Need-returns
 returns c =
@@ -22,7 +22,7 @@ returns c =
     let a = p .before .before .before .before .before .args in
     let s = scene (a .r) (now (a .vram)) (now (a .cgram)) (now (a .oam)) in
     c .candidates .ensures
-    ∙ ((λ i. candidatesOf (shownOf (a .r) (p .bg-params .ensures i)) (a .x) (bgPixel (now (a .vram)) (now (a .cgram)) (a .r) (p .bg-params .ensures i) (a .y) (a .x)))
+    ∙ ((λ i. candidatesOf (bgShownBy (a .r) (p .bg-params .ensures i)) (a .x) (bgPixel (now (a .vram)) (now (a .cgram)) (a .r) (p .bg-params .ensures i) (a .y) (a .x)))
     ∙ (λ i. candidatesOf (shown-low s (a .layer) (p .before .if1 .taken) i) (a .x) (pixel-low s (a .layer) (a .y) (p .before .if1 .taken) i (a .x))))
 
 returns-2 : tie.Need-returns-2

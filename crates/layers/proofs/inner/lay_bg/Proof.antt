@@ -5,10 +5,10 @@ use Rattle.lists.specs.Filling.{long-field}
 use Rattle.laying.specs.Laying.{layLines}
 use Rattle.laying.specs.Unlit.{unlit-lays-nothing}
 use Rattle.bg_row.specs.Row.{bgPixel}
-use Rattle.background.specs.Background.{shownOf}
+use Rattle.background.specs.Background.{bgShownBy}
 use Rattle.sprites.proofs.Listed.{neither}
 use Rattle.modes.specs.Modes.{paramsOf}
-use Rattle.layers.proofs.Numbers.{sound}
+use Rattle.layers.proofs.Numbers.{bg-tested}
 use borrow.Author.Needs.{needs}
 use Rattle.layers.proofs.inner.lay_bg.Statement.{statement}
 use Rattle.layers.proofs.inner.lay_bg.Tie as tie
@@ -21,7 +21,7 @@ long-sub : (c : tie.Start) → length (c .args .lines .sub) ≡ 256
 long-sub c = search (needs, long-field)
 
 returns : tie.Need-returns
-unfolding shownOf
+unfolding bgShownBy
 returns c =
     let p = c .before .before .before in
     let s = p .before .before .before in
@@ -30,20 +30,20 @@ returns c =
     let unlit = neither _ _ (c .if1 .taken) in
     let main = sym (λ i. p .bg-params .ensures i .«to_main») ∙ unlit .0 in
     let sub = sym (λ i. p .bg-params .ensures i .«to_sub») ∙ unlit .1 in
-    sym (unlit-lays-nothing (shownOf (a .r) (paramsOf (a .r) (a .bg))) pixel (a .lines) main sub (long-main s) (long-sub s))
+    sym (unlit-lays-nothing (bgShownBy (a .r) (paramsOf (a .r) (a .bg))) pixel (a .lines) main sub (long-main s) (long-sub s))
 
 lay-requires : tie.Need-lay-requires
 lay-requires c κs =
     let p = c .before .before .before in
     let s = p .before .before .before in
-    sound (s .args .r) (s .args .bg) (s .pre .0) (s .pre .1 .0) (p .bg-params .ensures)
+    bg-tested (s .args .r) (s .args .bg) (s .pre .0) (s .pre .1 .0) (p .bg-params .ensures)
 
 returns-2 : tie.Need-returns-2
 returns-2 c =
     let p = c .before .before .before .before in
     let a = p .before .before .before .args in
     c .lay .ensures
-    ∙ (λ i. layLines (shownOf (a .r) (p .bg-params .ensures i)) (bgPixel (now (a .vram)) (now (a .cgram)) (a .r) (p .bg-params .ensures i) (a .y)) (a .lines))
+    ∙ (λ i. layLines (bgShownBy (a .r) (p .bg-params .ensures i)) (bgPixel (now (a .vram)) (now (a .cgram)) (a .r) (p .bg-params .ensures i) (a .y)) (a .lines))
 
 pub lay-bg-spec : {M : Type 1} → statement M
 lay-bg-spec = tie.close (tie.spec (λ c κs. search needs) returns lay-requires returns-2)

@@ -13,7 +13,7 @@ use Rattle.composite.specs.Bit15.{row-blind}
 use Rattle.composite.proofs.Rows.{blank-row, lit-row}
 use Rattle.packed_composite.specs.Laws.{low16}
 use Rattle.layers.specs.Layers.{scene}
-use Rattle.renderer.specs.Renderer.{linesOf, rowOf}
+use Rattle.renderer.specs.Renderer.{sceneLines, sceneRow}
 use Rattle.renderer.proofs.inner.render.Statement.{statement}
 use Rattle.renderer.proofs.inner.render.Tie as tie
 
@@ -26,7 +26,7 @@ same : (c : ℕ) → SameColour (low16 c) c
 same c = omega arith
 
 returns : tie.Need-returns
-unfolding rowOf
+unfolding sceneRow
 returns c =
     let b = c .before .before in
     let f = b .before .before .before in
@@ -34,7 +34,7 @@ returns c =
     b .black .ensures ∙ blank-row (a .r) _ (sym (f .force-blank .ensures) ∙ b .before .before .if1 .taken)
 
 returns-2 : tie.Need-returns-2
-unfolding rowOf
+unfolding sceneRow
 returns-2 c =
     let m = c .before .before in
     let b = m .before in
@@ -44,7 +44,7 @@ returns-2 c =
     let s = f .before .before .before .before .before in
     let a = s .args in
     let r = a .r in
-    let lines = linesOf (scene r (now (a .vram)) (now (a .cgram)) (now (a .oam))) (a .y) in
+    let lines = sceneLines (scene r (now (a .vram)) (now (a .cgram)) (now (a .oam))) (a .y) in
     let low = recolouredLines low16 lines in
     let lit = sym (f .force-blank .ensures) ∙ e .if1 .left in
     m .brighten .ensures

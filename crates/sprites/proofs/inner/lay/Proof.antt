@@ -5,7 +5,7 @@ use Rattle.lists.specs.Filling.{long-field}
 use Rattle.laying.specs.Laying.{layLines, rowOf}
 use Rattle.laying.specs.Unlit.{unlit-lays-nothing}
 use Rattle.laying.proofs.Screens.{lay-row}
-use Rattle.sprites.specs.Sprites.{spritePixel, shownOf}
+use Rattle.sprites.specs.Sprites.{spritePixel, spritesShown}
 use Rattle.sprites.proofs.Listed.{neither}
 use borrow.Author.Needs.{needs}
 use Rattle.sprites.proofs.inner.lay.Statement.{statement}
@@ -27,7 +27,7 @@ returns c =
     let unlit = neither _ _ (c .if1 .taken) in
     let main = sym (λ i. w .shown .ensures i .«to_main») ∙ unlit .0 in
     let sub = sym (λ i. w .shown .ensures i .«to_sub») ∙ unlit .1 in
-    sym (unlit-lays-nothing (shownOf (a .r)) pixel (a .lines) main sub (long-main s) (long-sub s))
+    sym (unlit-lays-nothing (spritesShown (a .r)) pixel (a .lines) main sub (long-main s) (long-sub s))
 
 returns-2 : tie.Need-returns-2
 returns-2 c =
@@ -36,7 +36,7 @@ returns-2 c =
     let a = w .before .before .before .before .args in
     let pixel = spritePixel (now (a .vram)) (now (a .cgram)) (now (a .oam)) (a .r) (a .y) in
     c .lay-few .ensures
-    ∙ ((λ i. layLines (w .shown .ensures i) (rowOf (l .line .ensures i)) (a .lines)) ∙ lay-row (shownOf (a .r)) pixel (a .lines))
+    ∙ ((λ i. layLines (w .shown .ensures i) (rowOf (l .line .ensures i)) (a .lines)) ∙ lay-row (spritesShown (a .r)) pixel (a .lines))
 
 pub lay-spec : {M : Type 1} → statement M
 lay-spec = tie.close (tie.spec (λ c κs. search needs) returns (λ c κs. search needs) (λ c κs. search needs) returns-2)

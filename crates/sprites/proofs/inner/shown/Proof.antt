@@ -1,10 +1,10 @@
-use Rattle.sprites.specs.Sprites.{shownOf}
+use Rattle.sprites.specs.Sprites.{spritesShown}
 use borrow.Author.Needs.{needs}
 use Rattle.sprites.proofs.inner.shown.Statement.{statement}
 use Rattle.sprites.proofs.inner.shown.Tie as tie
 
 returns : tie.Need-returns
-unfolding shownOf
+unfolding spritesShown
 returns c =
     let d = c .before in
     let e = d .before in
