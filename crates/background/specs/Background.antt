@@ -34,7 +34,7 @@ isBackground layer = ltb (backgroundOf layer) 4
 
 -- the candidates at column x of row y
 abbrev pub bgCandidatesAnswer : List ℕ → List ℕ → PPURegisters → BgParams → ℕ → ℕ → Answer Candidates
-bgCandidatesAnswer v g r p x y =
+bgCandidatesAnswer v g r p y x =
     bgTests y (length v) (length g) (r .«mosaic_vcounter») (ltb x 256 && isBackground (p .layer))
     andThen value (candidatesOf (bgShownBy r p) x (bgPixel v g r p y x))
 

@@ -50,7 +50,7 @@ pub fn bg_candidates(
     x: usize,
     y: usize,
 ) -> CandidatesAnswer
-    ensures { λ a. ⌜ candidatesMean a ≡ bgCandidatesAnswer (now (vram .entry)) (now (cgram .entry)) r p x y ⌝ }
+    ensures { λ a. ⌜ candidatesMean a ≡ bgCandidatesAnswer (now (vram .entry)) (now (cgram .entry)) r p y x ⌝ }
 {
     let layer = p.layer;
     let column = x < SCREEN_WIDTH;

@@ -56,9 +56,9 @@ abbrev pub backdropOutcome : List ℕ → PPURegisters → Outcome Unit Lines
 backdropOutcome g r =
     outcome (colourTest (length g)) tt (backdropLines (getD g 0 0) (r .coldata)) (backdropLines 0 0)
 
--- the candidates of layer k at column x of row y
+-- the candidates of layer k of row y at column x
 abbrev pub layerCandidatesAnswer : Scene → ℕ → ℕ → ℕ → Answer Candidates
-layerCandidatesAnswer s x y k = layerTests s y (ltb x 256 && ltb k 5) andThen value (layerCandidates s y k x)
+layerCandidatesAnswer s y k x = layerTests s y (ltb x 256 && ltb k 5) andThen value (layerCandidates s y k x)
 
 -- both lines after layer k of row y is laid over them
 abbrev pub layerOutcome : Scene → ℕ → ℕ → Lines → Outcome Unit Lines

@@ -41,24 +41,24 @@ module _ (s : Scene) (k : ℕ) where
   unfolding layerShown
   shown-four e = λ i. cond (ltb (sym e i) 4) (bgShown s k) (sprites.spritesShown (s .regs))
 
-  module _ (y : ℕ) where
-    pub pixel-low : k < 4 → bgAt s y k ≡ layerPixel s y k
-    unfolding layerPixel
-    pixel-low h = λ i x. cond (sym (lt-ltb k 4 h) i) (bgAt s y k x) (cond (eqb k 4) (spriteAt s y x) none)
+module _ (s : Scene) (y k : ℕ) where
+  pub pixel-low : k < 4 → bgAt s y k ≡ layerPixel s y k
+  unfolding layerPixel
+  pixel-low h = λ i x. cond (sym (lt-ltb k 4 h) i) (bgAt s y k x) (cond (eqb k 4) (spriteAt s y x) none)
 
-    pub pixel-four : k ≡ 4 → spriteAt s y ≡ layerPixel s y k
-    unfolding layerPixel
-    pixel-four e = λ i x. cond (ltb (sym e i) 4) (bgAt s y k x) (cond (eqb (sym e i) 4) (spriteAt s y x) none)
+  pub pixel-four : k ≡ 4 → spriteAt s y ≡ layerPixel s y k
+  unfolding layerPixel
+  pixel-four e = λ i x. cond (ltb (sym e i) 4) (bgAt s y k x) (cond (eqb (sym e i) 4) (spriteAt s y x) none)
 
-    pub pixel-none : 5 ≤ k → (λ x. none) ≡ layerPixel s y k
-    unfolding layerPixel
-    pixel-none h =
-        let high-number = le-ltb k 4 (omega arith) in
-        let not-four = ne-eqb k 4 (λ e. absurd (omega arith)) in
-        λ i x. cond (sym high-number i) (bgAt s y k x) (cond (sym not-four i) (spriteAt s y x) none)
+  pub pixel-none : 5 ≤ k → (λ x. none) ≡ layerPixel s y k
+  unfolding layerPixel
+  pixel-none h =
+      let high-number = le-ltb k 4 (omega arith) in
+      let not-four = ne-eqb k 4 (λ e. absurd (omega arith)) in
+      λ i x. cond (sym high-number i) (bgAt s y k x) (cond (sym not-four i) (spriteAt s y x) none)
 
-    -- so a number above 4 lays nothing
-    pub none-laid : 5 ≤ k → (l : Lines) → FullLines l → layLines (layerShown s k) (layerPixel s y k) l ≡ l
-    none-laid h l w =
-        (λ i. layLines (layerShown s k) (sym (pixel-none h) i) l)
-        ∙ (λ i. record { main = bare (onMain (layerShown s k)) (l .main) (w .0) i; sub = bare (onSub (layerShown s k)) (l .sub) (w .1) i })
+  -- so a number above 4 lays nothing
+  pub none-laid : 5 ≤ k → (l : Lines) → FullLines l → layLines (layerShown s k) (layerPixel s y k) l ≡ l
+  none-laid h l w =
+      (λ i. layLines (layerShown s k) (sym (pixel-none h) i) l)
+      ∙ (λ i. record { main = bare (onMain (layerShown s k)) (l .main) (w .0) i; sub = bare (onSub (layerShown s k)) (l .sub) (w .1) i })

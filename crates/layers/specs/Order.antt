@@ -72,7 +72,7 @@ module _ (s : Scene) (y : ℕ) where
       by-test : (b : Bool) → ltb k 5 ≡ b →
           outcome {A = Unit} (layerTests s y b) tt (layered s y k l) l .left ≡ layLines (layerShown s k) (layerPixel s y k) l
       by-test true e = λ i. outcome {A = Unit} (t i) tt (layered s y k l) l .left
-      by-test false e = either (layerTests s y false) (none-laid s k y (ltb-false k 5 e) l w)
+      by-test false e = either (layerTests s y false) (none-laid s y k (ltb-false k 5 e) l w)
 
   -- so the calls leave what their layers leave
   pub calls-lay : layerTests s y true ≡ value tt → {l m : Lines} (ks : List ℕ) → FullLines l → LayerCalls l ks m →

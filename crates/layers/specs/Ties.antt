@@ -151,16 +151,16 @@ module _ (s : Scene) (y : ℕ) where
         by-four : (t : Bool) → eqb k 4 ≡ t → 4 ≤ k → Own k (candidate x k)
         by-four true e h =
             let four = eqb-true k 4 e in
-            subst (Own k) (λ i. onScreen (on (layerShown s k) x) (pixel-four s k y four i x)) (own-four k x (on (layerShown s k) x) four)
+            subst (Own k) (λ i. onScreen (on (layerShown s k) x) (pixel-four s y k four i x)) (own-four k x (on (layerShown s k) x) four)
         by-four false e h =
             let apart : k ≡ 4 → ⊥ = eqb-false k 4 e in
             let above : 5 ≤ k = omega (arith, apart) in
-            subst (Own k) (λ i. onScreen (on (layerShown s k) x) (pixel-none s k y above i x)) (λ o. absurd (false≢true o))
+            subst (Own k) (λ i. onScreen (on (layerShown s k) x) (pixel-none s y k above i x)) (λ o. absurd (false≢true o))
 
         by-low : (t : Bool) → ltb k 4 ≡ t → Own k (candidate x k)
         by-low true e =
             let h = ltb-true k 4 e in
-            subst (Own k) (λ i. onScreen (on (shown-low s k h i) x) (pixel-low s k y h i x)) (own-low k x h)
+            subst (Own k) (λ i. onScreen (on (shown-low s k h i) x) (pixel-low s y k h i x)) (own-low k x h)
         by-low false e = by-four (eqb k 4) refl (ltb-false k 4 e)
 
     -- so no two tie
@@ -176,7 +176,7 @@ module _ (s : Scene) (y : ℕ) where
         by-test : (t : Bool) → ltb k 5 ≡ t → k < 5
         by-test true e = ltb-true k 5 e
         by-test false e =
-            let gone = sym (pixel-none s k y (ltb-false k 5 e)) in
+            let gone = sym (pixel-none s y k (ltb-false k 5 e)) in
             absurd (false≢true (subst (λ (c : Candidate). c .opaque ≡ true) (λ i. onScreen (on (layerShown s k) x) (gone i x)) o))
 
   only-main : (k x : ℕ) → onMain (bgShown s k) x ≡ true → bgModeOf mode k .present ≡ true

@@ -79,7 +79,7 @@ pub fn layer_candidates(
     y: usize,
     layer: usize,
 ) -> CandidatesAnswer
-    ensures { λ a. ⌜ candidatesMean a ≡ layerCandidatesAnswer (scene r (now (vram .entry)) (now (cgram .entry)) (now (oam .entry))) x y layer ⌝ }
+    ensures { λ a. ⌜ candidatesMean a ≡ layerCandidatesAnswer (scene r (now (vram .entry)) (now (cgram .entry)) (now (oam .entry))) y layer x ⌝ }
 {
     let in_range = (x < SCREEN_WIDTH) & (layer < LAYERS);
     match layer_tested(

@@ -336,13 +336,13 @@ module _ (b : ℕ) (r q : PPURegisters) (shared : sharedOf r ≡ sharedOf q)
           let o = others k h (eqb-false k b d) in
           same
           (sym (shown-low one k h) ∙ (same-shown r q shared k o h ∙ shown-low two k h))
-          (sym (pixel-low one k y h) ∙ ((λ i x. same-pixel r q shared k o v g y x i) ∙ pixel-low two k y h))
+          (sym (pixel-low one y k h) ∙ ((λ i x. same-pixel r q shared k o v g y x i) ∙ pixel-low two y k h))
 
   alike-sprites : AlikeHere 4
   alike-sprites =
       same
       (sym (shown-four one 4 refl) ∙ (same-sprites-shown r q shared ∙ shown-four two 4 refl))
-      (sym (pixel-four one 4 y refl) ∙ ((λ i x. same-sprites r q shared v g oam y x i) ∙ pixel-four two 4 y refl))
+      (sym (pixel-four one y 4 refl) ∙ ((λ i x. same-sprites r q shared v g oam y x i) ∙ pixel-four two y 4 refl))
 
   same-lines : sceneLines one y ≡ sceneLines two y
   same-lines =

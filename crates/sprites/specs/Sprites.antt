@@ -59,7 +59,7 @@ spriteLineOutcome v g oam r y =
 
 -- the candidates at column x of row y
 abbrev pub spriteCandidatesAnswer : List ℕ → List ℕ → List ℕ → PPURegisters → ℕ → ℕ → Answer Candidates
-spriteCandidatesAnswer v g oam r x y =
+spriteCandidatesAnswer v g oam r y x =
     layerTests (scene r v g oam) y (ltb x 256) andThen value (candidatesOf (spritesShown r) x (spritePixel v g oam r y x))
 
 -- both lines after row y is laid over them

@@ -66,7 +66,7 @@ pub fn sprite_candidates(
     x: usize,
     y: usize,
 ) -> CandidatesAnswer
-    ensures { λ a. ⌜ candidatesMean a ≡ spriteCandidatesAnswer (now (vram .entry)) (now (cgram .entry)) (now (oam .entry)) r x y ⌝ }
+    ensures { λ a. ⌜ candidatesMean a ≡ spriteCandidatesAnswer (now (vram .entry)) (now (cgram .entry)) (now (oam .entry)) r y x ⌝ }
 {
     let column = x < SCREEN_WIDTH;
     match layer_tested(

@@ -23,7 +23,7 @@ returns c =
     let s = scene (a .r) (now (a .vram)) (now (a .cgram)) (now (a .oam)) in
     c .candidates .ensures
     ∙ ((λ i. candidatesOf (bgShownBy (a .r) (p .bg-params .ensures i)) (a .x) (bgPixel (now (a .vram)) (now (a .cgram)) (a .r) (p .bg-params .ensures i) (a .y) (a .x)))
-    ∙ (λ i. candidatesOf (shown-low s (a .layer) (p .before .if1 .taken) i) (a .x) (pixel-low s (a .layer) (a .y) (p .before .if1 .taken) i (a .x))))
+    ∙ (λ i. candidatesOf (shown-low s (a .layer) (p .before .if1 .taken) i) (a .x) (pixel-low s (a .y) (a .layer) (p .before .if1 .taken) i (a .x))))
 
 returns-2 : tie.Need-returns-2
 returns-2 c =
@@ -31,7 +31,7 @@ returns-2 c =
     let s = scene (a .r) (now (a .vram)) (now (a .cgram)) (now (a .oam)) in
     let last = is-four (a .layer) (c .before .if1 .left) (c .before .before .before .before .before .pre .1 .1) in
     c .candidates2 .ensures
-    ∙ (λ i. candidatesOf (shown-four s (a .layer) last i) (a .x) (pixel-four s (a .layer) (a .y) last i (a .x)))
+    ∙ (λ i. candidatesOf (shown-four s (a .layer) last i) (a .x) (pixel-four s (a .y) (a .layer) last i (a .x)))
 
 pub candidates-spec : {M : Type 1} → statement M
 candidates-spec =

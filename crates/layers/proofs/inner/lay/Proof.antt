@@ -13,14 +13,14 @@ returns c =
     let a = c .before .before .before .before .before .args in
     let s = scene (a .r) (now (a .vram)) (now (a .cgram)) (now (a .oam)) in
     let low = c .before .if1 .taken in
-    c .lay-bg .ensures ∙ (λ i. layLines (shown-low s (a .layer) low i) (pixel-low s (a .layer) (a .y) low i) (a .lines))
+    c .lay-bg .ensures ∙ (λ i. layLines (shown-low s (a .layer) low i) (pixel-low s (a .y) (a .layer) low i) (a .lines))
 
 returns-2 : tie.Need-returns-2
 returns-2 c =
     let a = c .before .before .before .before .before .args in
     let s = scene (a .r) (now (a .vram)) (now (a .cgram)) (now (a .oam)) in
     let last = is-four (a .layer) (c .before .if1 .left) (c .before .before .before .before .before .pre .1) in
-    c .lay .ensures ∙ (λ i. layLines (shown-four s (a .layer) last i) (pixel-four s (a .layer) (a .y) last i) (a .lines))
+    c .lay .ensures ∙ (λ i. layLines (shown-four s (a .layer) last i) (pixel-four s (a .y) (a .layer) last i) (a .lines))
 
 pub lay-spec : {M : Type 1} → statement M
 lay-spec = tie.close (tie.spec (λ c κs. search needs) returns (λ c κs. search needs) returns-2)
