@@ -6,7 +6,7 @@ use registers::PPURegisters;
 use registers::inner::bit;
 use sprite_fetch::Fetched;
 use sprite_tile::Slice;
-use sprites::inner::tiles;
+use sprites::inner::fetched_rows;
 use tiles::inner::plane_word;
 ghost use mathlib.Core.Path.{_≡_};
 ghost use mathlib.Core.Bool.{cond, not, _||_};
@@ -103,7 +103,7 @@ pub fn row(vram: &[u16], g: &[u32], oam: &[u8], r: PPURegisters, y: usize) -> [u
     ensures { λ l. ⌜ l ≡ tab 256 (λ x. cond (bitOf (r .tm) 4 || bitOf (r .ts) 4) (packedIf (sprites.spritePixel (now (vram .entry)) (now (g .entry)) (now (oam .entry)) r y x)) 0) ⌝ }
 {
     if bit(r.tm, OBJ) | bit(r.ts, OBJ) {
-        return draw(tiles(oam, r, y), vram, g);
+        return draw(fetched_rows(oam, r, y), vram, g);
     }
     [0; 256]
 }

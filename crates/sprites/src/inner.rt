@@ -45,8 +45,8 @@ fn view(r: PPURegisters, y: usize) -> View
     }
 }
 
-// The fetched tiles of row y: the sprites are chosen, and their tiles fetched.
-pub fn tiles(oam: &[u8], r: PPURegisters, y: usize) -> Fetched
+// The fetched rows of tiles that row y shows: the sprites are chosen, and their tiles fetched.
+pub fn fetched_rows(oam: &[u8], r: PPURegisters, y: usize) -> Fetched
     requires { ⌜ (length (now oam) ≡ 544) × (y < 224) ⌝ }
     ensures { λ f. ⌜ (f ≡ fetchedList (viewOf r y) (fetched 34 (r .objsel) (chosenSprites (now (oam .entry)) r y))) × ((f .count ≤ 34) × AllSound (f .count) (f .slices)) ⌝ }
 {
@@ -55,12 +55,12 @@ pub fn tiles(oam: &[u8], r: PPURegisters, y: usize) -> Fetched
     fetch(chosen, view)
 }
 
-// The sprite line: the fetched tiles are drawn.
+// The sprite line: the fetched rows are drawn.
 pub fn line(vram: &[u16], cgram: &[u16], oam: &[u8], r: PPURegisters, y: usize) -> [Candidate; 256]
     requires { ⌜ SceneTested (length (now cgram)) (length (now oam)) y ⌝ }
     ensures { λ l. ⌜ l ≡ tab 256 (spritePixel (now (vram .entry)) (now (cgram .entry)) (now (oam .entry)) r y) ⌝ }
 {
-    draw(tiles(oam, r, y), vram, cgram)
+    draw(fetched_rows(oam, r, y), vram, cgram)
 }
 
 // Where the sprites are shown.

@@ -41,10 +41,10 @@ returns c =
     let a = s .args in
     let v = now (a .vram) in
     let g = now (a .g) in
-    let t = f .tiles .result in
+    let t = f .fetched-rows .result in
     let chosen = chosenSprites (now (a .oam)) (a .r) (a .y) in
     let view = viewOf (a .r) (a .y) in
-    let line = ap (map packedIf) (drawn-line v g view (byte s) chosen (f .tiles .ensures .0)) in
+    let line = ap (map packedIf) (drawn-line v g view (byte s) chosen (f .fetched-rows .ensures .0)) in
     c .draw .ensures
     ∙ (sym (map-tab packedIf 256 (λ x. drawnAll v g (take (t .count) (t .slices)) x none))
     ∙ (line

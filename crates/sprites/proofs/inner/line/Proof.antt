@@ -19,7 +19,7 @@ returns c =
     let s = f .before .before .before .before in
     let a = s .args in
     c .draw .ensures
-    ∙ drawn-line (now (a .vram)) (now (a .cgram)) (viewOf (a .r) (a .y)) (byte s) (chosenSprites (now (a .oam)) (a .r) (a .y)) (f .tiles .ensures .0)
+    ∙ drawn-line (now (a .vram)) (now (a .cgram)) (viewOf (a .r) (a .y)) (byte s) (chosenSprites (now (a .oam)) (a .r) (a .y)) (f .fetched-rows .ensures .0)
 
 pub line-spec : {M : Type 1} → statement M
 line-spec = tie.close (tie.spec (λ c κs. search needs) (λ c κs. search needs) returns)

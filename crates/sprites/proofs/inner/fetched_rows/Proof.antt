@@ -6,8 +6,8 @@ use Rattle.sprite_fetch.specs.Walk.{fetchedList}
 use Rattle.sprites.specs.Sprites.{viewOf}
 use Rattle.sprites.proofs.Listed.{chosen-few, chosen-fair, chosen-listed}
 use borrow.Author.Needs.{needs}
-use Rattle.sprites.proofs.inner.tiles.Statement.{statement}
-use Rattle.sprites.proofs.inner.tiles.Tie as tie
+use Rattle.sprites.proofs.inner.fetched_rows.Statement.{statement}
+use Rattle.sprites.proofs.inner.fetched_rows.Tie as tie
 
 -- what `choose` hands back, by the registers
 is-chosen : (c : tie.After-choose) →
@@ -34,5 +34,5 @@ returns c =
       c .fetch .ensures .1,
     )
 
-pub tiles-spec : {M : Type 1} → statement M
-tiles-spec = tie.close (tie.spec (λ c κs. search needs) (λ c κs. search needs) fetch-requires returns)
+pub fetched-rows-spec : {M : Type 1} → statement M
+fetched-rows-spec = tie.close (tie.spec (λ c κs. search needs) (λ c κs. search needs) fetch-requires returns)
