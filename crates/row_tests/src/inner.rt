@@ -1,5 +1,5 @@
-// The tests, and those of each call. Where all are passed, the contract also says what that leaves for
-// the work.
+// Each test, then the tests of each kind of call. Where all are passed, the contract also says what that
+// leaves for the work.
 use oam::OAM_SIZE;
 use refusal::Refusal;
 use refusal::Verdict;
@@ -26,7 +26,7 @@ fn test(holds: bool, n: Refusal) -> Verdict
     }
 }
 
-// The first refusal of the two.
+// The first refusal of two verdicts, or Fine.
 fn and_then(first: Verdict, next: Verdict) -> Verdict
     ensures { λ v. ⌜ (verdictMeans v ≡ (verdictMeans first andThen verdictMeans next)) × (Passed v → Passed first × Passed next) ⌝ }
 {
@@ -75,7 +75,7 @@ fn last_tested(counter: u8, in_range: bool) -> Verdict
     and_then(counter_tested(counter), range)
 }
 
-// A background's row, or its candidates at a column.
+// The tests of a background's calls.
 pub fn bg_tested(y: usize, words: usize, colours: usize, counter: u8, in_range: bool) -> Verdict
     ensures { λ v. ⌜ (verdictMeans v ≡ bgTests y words colours counter «in_range») × (Passed v → ((y < 224) × (colours ≡ 256)) × («in_range» ≡ true)) ⌝ }
 {
@@ -85,7 +85,7 @@ pub fn bg_tested(y: usize, words: usize, colours: usize, counter: u8, in_range: 
     )
 }
 
-// The row of the sprites or of any layer, or the candidates at a column.
+// Of the calls of the sprites, and of any layer.
 pub fn layer_tested(
     y: usize,
     words: usize,
@@ -102,7 +102,7 @@ pub fn layer_tested(
     )
 }
 
-// Both lines that are written into a lent row; `lent` says that it has its length.
+// Of both lines that are written into a lent row; `lent` says that it has its length.
 pub fn lent_tested(lent: bool, counter: u8) -> Verdict
     ensures { λ v. ⌜ (verdictMeans v ≡ lentTests lent counter) × (Passed v → (lent ≡ true)) ⌝ }
 {
@@ -110,7 +110,7 @@ pub fn lent_tested(lent: bool, counter: u8) -> Verdict
     and_then(whole, counter_tested(counter))
 }
 
-// A row that is drawn into a lent row or picture.
+// Of a row that is drawn into a lent row or picture.
 pub fn draw_tested(
     y: usize,
     words: usize,
@@ -127,7 +127,7 @@ pub fn draw_tested(
     )
 }
 
-// The choice of a row's sprites.
+// Of the choice of a row's sprites.
 pub fn choice_tested(y: usize, bytes: usize) -> Verdict
     ensures { λ v. ⌜ (verdictMeans v ≡ choiceTests y bytes) × (Passed v → (y < 224) × (bytes ≡ 544)) ⌝ }
 {
@@ -135,7 +135,7 @@ pub fn choice_tested(y: usize, bytes: usize) -> Verdict
     and_then(row_tested(y), oam)
 }
 
-// A row of lent pictures that is handed back as its part.
+// Of a row of lent pictures that is handed back.
 pub fn part_tested(y: usize, lent: bool, in_range: bool) -> Verdict
     ensures { λ v. ⌜ (verdictMeans v ≡ partTests y lent «in_range») × (Passed v → (y < 224) × ((lent ≡ true) × («in_range» ≡ true))) ⌝ }
 {

@@ -1,3 +1,3 @@
-// The tests of every call that has to do with a row, for the crates above: of the refusals that apply
-// a call answers the lowest number, so each function asks in the order of the numbers.
+// The tests of the calls that have to do with a row, for the crates above. Of the refusals that apply a
+// call answers the lowest number.
 pub mod inner;
