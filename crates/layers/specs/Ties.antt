@@ -129,38 +129,38 @@ module _ (s : Scene) (y : ℕ) where
     abbrev candidate : ℕ → ℕ → Candidate
     candidate x k = onScreen (on (layerShown s k) x) (layerPixel s y k x)
 
-    abbrev Own : ℕ → Candidate → Type 0
-    Own k c = c .opaque ≡ true → holds (prioritiesFor k) (c .pixel .z .0) ≡ true
+    abbrev OwnPriority : ℕ → Candidate → Type 0
+    OwnPriority k c = c .opaque ≡ true → holds (prioritiesFor k) (c .pixel .z .0) ≡ true
 
     own-low : (k x : ℕ) → k < 4 →
-        Own k (onScreen (on (bgShown s k) x) (bgAt s y k x))
+        OwnPriority k (onScreen (on (bgShown s k) x) (bgAt s y k x))
     own-low k x h o =
         let seen = seen-on (on (bgShown s k) x) (bgAt s y k x) o in
         (λ i. holds (sym (priorities-low k h (only k x (seen .1 .1))) i) (seen .0 i .pixel .z .0)) ∙ own-pixel k x
 
-    own-four : (k x : ℕ) (shown : Bool) → k ≡ 4 → Own k (onScreen shown (spriteAt s y x))
+    own-four : (k x : ℕ) (shown : Bool) → k ≡ 4 → OwnPriority k (onScreen shown (spriteAt s y x))
     unfolding sprites.spritePixel
     own-four k x shown e o =
         let seen = seen-on shown (spriteAt s y x) o in
         (λ i. holds (sym (priorities-four k e) i) (seen .0 i .pixel .z .0))
         ∙ line-fair (s .vram) (s .cgram) (sprites.viewOf (s .regs) y) tileLimit (sprites.chosenSprites (s .oam) (s .regs) y) x (seen .1 .0)
 
-    own : (x k : ℕ) → Own k (candidate x k)
+    own : (x k : ℕ) → OwnPriority k (candidate x k)
     own x k = by-low (ltb k 4) refl
       where
-        by-four : (t : Bool) → eqb k 4 ≡ t → 4 ≤ k → Own k (candidate x k)
+        by-four : (t : Bool) → eqb k 4 ≡ t → 4 ≤ k → OwnPriority k (candidate x k)
         by-four true e h =
             let four = eqb-true k 4 e in
-            subst (Own k) (λ i. onScreen (on (layerShown s k) x) (pixel-four s y k four i x)) (own-four k x (on (layerShown s k) x) four)
+            subst (OwnPriority k) (λ i. onScreen (on (layerShown s k) x) (pixel-four s y k four i x)) (own-four k x (on (layerShown s k) x) four)
         by-four false e h =
             let apart : k ≡ 4 → ⊥ = eqb-false k 4 e in
             let above : 5 ≤ k = omega (arith, apart) in
-            subst (Own k) (λ i. onScreen (on (layerShown s k) x) (pixel-none s y k above i x)) (λ o. absurd (false≢true o))
+            subst (OwnPriority k) (λ i. onScreen (on (layerShown s k) x) (pixel-none s y k above i x)) (λ o. absurd (false≢true o))
 
-        by-low : (t : Bool) → ltb k 4 ≡ t → Own k (candidate x k)
+        by-low : (t : Bool) → ltb k 4 ≡ t → OwnPriority k (candidate x k)
         by-low true e =
             let h = ltb-true k 4 e in
-            subst (Own k) (λ i. onScreen (on (shown-low s k h i) x) (pixel-low s y k h i x)) (own-low k x h)
+            subst (OwnPriority k) (λ i. onScreen (on (shown-low s k h i) x) (pixel-low s y k h i x)) (own-low k x h)
         by-low false e = by-four (eqb k 4) refl (ltb-false k 4 e)
 
     -- so no two tie

@@ -7,7 +7,7 @@ use registers::constants::BACKGROUNDS;
 ghost use mathlib.Core.Path.{_≡_};
 ghost use Prim.Native.Nat.{_<_};
 ghost use lib.ListN.{length};
-ghost use Rattle.row_tests.specs.Tests.{SceneTested};
+ghost use Rattle.row_tests.specs.Tests.{RowTested};
 ghost use Rattle.modes.specs.Modes.{paramsOf};
 ghost use Rattle.laying.specs.Laying.{layLines};
 ghost use Rattle.bg_row.specs.Row.{bgPixel};
@@ -36,7 +36,7 @@ pub fn lay(
     y: usize,
     layer: usize,
 ) -> Lines
-    requires { ⌜ SceneTested (length (now cgram)) (length (now oam)) y × (layer < 5) ⌝ }
+    requires { ⌜ RowTested (length (now cgram)) (length (now oam)) y × (layer < 5) ⌝ }
     ensures { λ o. ⌜ o ≡ layered (scene r (now (vram .entry)) (now (cgram .entry)) (now (oam .entry))) y layer lines ⌝ }
 {
     if layer < BACKGROUNDS {
@@ -55,7 +55,7 @@ pub fn candidates(
     y: usize,
     layer: usize,
 ) -> Candidates
-    requires { ⌜ SceneTested (length (now cgram)) (length (now oam)) y × ((x < 256) × (layer < 5)) ⌝ }
+    requires { ⌜ RowTested (length (now cgram)) (length (now oam)) y × ((x < 256) × (layer < 5)) ⌝ }
     ensures { λ o. ⌜ o ≡ layerCandidates (scene r (now (vram .entry)) (now (cgram .entry)) (now (oam .entry))) y layer x ⌝ }
 {
     if layer < BACKGROUNDS {

@@ -15,7 +15,7 @@ ghost use lib.ListN.{length, getD, take};
 ghost use lib.Dec.{leb, eqb};
 ghost use Rattle.lists.specs.Tab.{tab};
 ghost use Rattle.registers.specs.Bits.{bitOf};
-ghost use Rattle.row_tests.specs.Tests.{SceneTested};
+ghost use Rattle.row_tests.specs.Tests.{RowTested};
 ghost use Rattle.line.specs.Pixels.{none};
 ghost use Rattle.line.specs.declared.Layer.the-variants.{Obj};
 ghost use Rattle.packed.specs.Packed.{codeOf, packedIf};
@@ -99,7 +99,7 @@ fn draw(f: Fetched, vram: &[u16], g: &[u32]) -> [u32; 256]
 
 // The sprite line, where a screen lights the sprites, and otherwise nothing.
 pub fn row(vram: &[u16], g: &[u32], oam: &[u8], r: PPURegisters, y: usize) -> [u32; 256]
-    requires { ⌜ SceneTested (length (now g)) (length (now oam)) y ⌝ }
+    requires { ⌜ RowTested (length (now g)) (length (now oam)) y ⌝ }
     ensures { λ l. ⌜ l ≡ tab 256 (λ x. cond (bitOf (r .tm) 4 || bitOf (r .ts) 4) (packedIf (sprites.spritePixel (now (vram .entry)) (now (g .entry)) (now (oam .entry)) r y x)) 0) ⌝ }
 {
     if bit(r.tm, OBJ) | bit(r.ts, OBJ) {

@@ -15,7 +15,7 @@ ghost use Rattle.refusal.specs.Verdicts.{verdictMeans};
 ghost use Rattle.registers.specs.Replaced.{withCounter};
 ghost use Rattle.registers.specs.Scene.{scene};
 ghost use Rattle.say.specs.Lines.{refusedLine};
-ghost use Rattle.row_tests.specs.Tests.{SceneTested};
+ghost use Rattle.row_tests.specs.Tests.{RowTested};
 ghost use Rattle.plate.specs.Frame.{counterAfter, counterAt, frameRow, plateHeader, Part, Come, Reached};
 
 // The first bytes of a plate.
@@ -55,7 +55,7 @@ pub fn draw_row(
     y: usize,
     counter: u8,
 ) -> u8
-    requires { ⌜ SceneTested (length (now cgram)) (length (now oam)) y × ((length (now row) ≡ 768) × (counter ≡ counterAt r y)) ⌝ }
+    requires { ⌜ RowTested (length (now cgram)) (length (now oam)) y × ((length (now row) ≡ 768) × (counter ≡ counterAt r y)) ⌝ }
     ensures { λ n. ⌜ (now (row .exit) ≡ frameRow (scene r (now (vram .entry)) (now (cgram .entry)) (now (oam .entry))) y) × (n ≡ counterAt r (y + 1)) ⌝ }
 {
     let now = at_counter(r, counter);

@@ -10,7 +10,7 @@ ghost use mathlib.Core.Path.{_≡_};
 ghost use lib.ListN.{length};
 ghost use Rattle.lists.specs.Tab.{tab};
 ghost use Rattle.line.specs.Recoloured.{recolouredLines};
-ghost use Rattle.row_tests.specs.Tests.{SceneTested};
+ghost use Rattle.row_tests.specs.Tests.{RowTested};
 ghost use Rattle.composite.specs.Composite.{colourAt};
 ghost use Rattle.packed_composite.specs.Laws.{low16};
 ghost use Rattle.layers.specs.Layers.{scene};
@@ -18,7 +18,7 @@ ghost use Rattle.renderer.specs.Renderer.{sceneLines, sceneRow};
 
 // The colours of row y before brightness: the rows of the five layers, and colour math.
 fn mixed(vram: &[u16], cgram: &[u16], oam: &[u8], r: PPURegisters, y: usize) -> [u16; 256]
-    requires { ⌜ SceneTested (length (now cgram)) (length (now oam)) y ⌝ }
+    requires { ⌜ RowTested (length (now cgram)) (length (now oam)) y ⌝ }
     ensures { λ o. ⌜ o ≡ tab 256 (colourAt r (recolouredLines low16 (sceneLines (scene r (now (vram .entry)) (now (cgram .entry)) (now (oam .entry))) y))) ⌝ }
 {
     let back = backdrop(cgram[0]);
@@ -37,7 +37,7 @@ fn mixed(vram: &[u16], cgram: &[u16], oam: &[u8], r: PPURegisters, y: usize) -> 
 
 // Draws row y into a lent row. Under forced blank nothing is laid.
 pub fn render(row: &mut [u8], vram: &[u16], cgram: &[u16], oam: &[u8], r: PPURegisters, y: usize)
-    requires { ⌜ SceneTested (length (now cgram)) (length (now oam)) y × (length (now row) ≡ 768) ⌝ }
+    requires { ⌜ RowTested (length (now cgram)) (length (now oam)) y × (length (now row) ≡ 768) ⌝ }
     ensures { λ u. ⌜ now (row .exit) ≡ sceneRow (scene r (now (vram .entry)) (now (cgram .entry)) (now (oam .entry))) y ⌝ }
 {
     if r.force_blank() {

@@ -13,8 +13,8 @@ abbrev pub test : Bool → ℕ → Answer Unit
 test holds n = provided holds n (value tt)
 
 -- a row above 223 is refused 1
-abbrev pub rowTest : ℕ → Answer Unit
-rowTest y = test (ltb y 224) 1
+abbrev pub rowNumberTest : ℕ → Answer Unit
+rowNumberTest y = test (ltb y 224) 1
 
 -- VRAM of another length is refused 2
 abbrev pub vramTest : ℕ → Answer Unit
@@ -42,14 +42,14 @@ rangeTest inRange = test inRange 7
 
 -- the first tests: the row, and the memories that every layer is drawn from
 abbrev pub baseTests : ℕ → ℕ → ℕ → Answer Unit
-baseTests y words colours = rowTest y andThen vramTest words andThen colourTest colours
+baseTests y words colours = rowNumberTest y andThen vramTest words andThen colourTest colours
 
 -- the same, and the memory that the sprites are drawn from
-abbrev pub sceneTests : ℕ → ℕ → ℕ → ℕ → Answer Unit
-sceneTests y words colours bytes = baseTests y words colours andThen oamTest bytes
+abbrev pub rowTests : ℕ → ℕ → ℕ → ℕ → Answer Unit
+rowTests y words colours bytes = baseTests y words colours andThen oamTest bytes
 
 -- what they leave for the work
-pub record SceneTested (colours bytes y : ℕ) : Type 0 where
+pub record RowTested (colours bytes y : ℕ) : Type 0 where
   pub palettes : colours ≡ 256
   pub memory : bytes ≡ 544
   pub row : y < 224
@@ -68,15 +68,15 @@ bgTests y words colours counter inRange = baseTests y words colours andThen last
 
 -- of the choice of a row's sprites
 abbrev pub choiceTests : ℕ → ℕ → Answer Unit
-choiceTests y bytes = rowTest y andThen oamTest bytes
+choiceTests y bytes = rowNumberTest y andThen oamTest bytes
 
 -- of a row of lent pictures that is handed back
 abbrev pub partTests : ℕ → Bool → Bool → Answer Unit
-partTests y lent inRange = rowTest y andThen lentTest lent andThen rangeTest inRange
+partTests y lent inRange = rowNumberTest y andThen lentTest lent andThen rangeTest inRange
 
 module _ (s : Scene) (y : ℕ) where
   abbrev tests : Answer Unit
-  tests = sceneTests y (length (s .vram)) (length (s .cgram)) (length (s .oam))
+  tests = rowTests y (length (s .vram)) (length (s .cgram)) (length (s .oam))
 
   -- of the calls of the sprites, and of any layer
   abbrev pub layerTests : Bool → Answer Unit

@@ -13,7 +13,7 @@ ghost use Prim.Native.Nat.{_<_};
 ghost use Rattle.refusal.specs.Answer.{_andThen_};
 ghost use Rattle.refusal.specs.Numbers.{numberOf};
 ghost use Rattle.refusal.specs.Verdicts.{verdictMeans, Passed};
-ghost use Rattle.row_tests.specs.Tests.{test, rowTest, counterTest, baseTests, sceneTests, SceneTested, lastTests, lentTests, bgTests, choiceTests, partTests};
+ghost use Rattle.row_tests.specs.Tests.{test, rowNumberTest, counterTest, baseTests, rowTests, RowTested, lastTests, lentTests, bgTests, choiceTests, partTests};
 
 // Fine where the test holds, otherwise the refusal.
 fn test(holds: bool, n: Refusal) -> Verdict
@@ -36,9 +36,9 @@ fn and_then(first: Verdict, next: Verdict) -> Verdict
     }
 }
 
-// The row.
-fn row_tested(y: usize) -> Verdict
-    ensures { λ v. ⌜ (verdictMeans v ≡ rowTest y) × (Passed v → y < 224) ⌝ }
+// The row's number.
+fn number_tested(y: usize) -> Verdict
+    ensures { λ v. ⌜ (verdictMeans v ≡ rowNumberTest y) × (Passed v → y < 224) ⌝ }
 {
     test(y < SCREEN_HEIGHT, Refusal::Row)
 }
@@ -56,12 +56,12 @@ fn base_tested(y: usize, words: usize, colours: usize) -> Verdict
 {
     let vram = test(words == VRAM_WORDS, Refusal::Vram);
     let colour = test(colours == COLOUR_WORDS, Refusal::Colour);
-    and_then(row_tested(y), and_then(vram, colour))
+    and_then(number_tested(y), and_then(vram, colour))
 }
 
 // The row and the three memories.
-fn scene_tested(y: usize, words: usize, colours: usize, bytes: usize) -> Verdict
-    ensures { λ v. ⌜ (verdictMeans v ≡ sceneTests y words colours bytes) × (Passed v → SceneTested colours bytes y) ⌝ }
+fn row_tested(y: usize, words: usize, colours: usize, bytes: usize) -> Verdict
+    ensures { λ v. ⌜ (verdictMeans v ≡ rowTests y words colours bytes) × (Passed v → RowTested colours bytes y) ⌝ }
 {
     let oam = test(bytes == OAM_SIZE, Refusal::Oam);
     and_then(base_tested(y, words, colours), oam)
@@ -94,10 +94,10 @@ pub fn layer_tested(
     counter: u8,
     in_range: bool,
 ) -> Verdict
-    ensures { λ v. ⌜ (verdictMeans v ≡ (sceneTests y words colours bytes andThen lastTests counter «in_range»)) × (Passed v → SceneTested colours bytes y × («in_range» ≡ true)) ⌝ }
+    ensures { λ v. ⌜ (verdictMeans v ≡ (rowTests y words colours bytes andThen lastTests counter «in_range»)) × (Passed v → RowTested colours bytes y × («in_range» ≡ true)) ⌝ }
 {
     and_then(
-        scene_tested(y, words, colours, bytes),
+        row_tested(y, words, colours, bytes),
         last_tested(counter, in_range),
     )
 }
@@ -119,10 +119,10 @@ pub fn draw_tested(
     lent: bool,
     counter: u8,
 ) -> Verdict
-    ensures { λ v. ⌜ (verdictMeans v ≡ (sceneTests y words colours bytes andThen lentTests lent counter)) × (Passed v → SceneTested colours bytes y × (lent ≡ true)) ⌝ }
+    ensures { λ v. ⌜ (verdictMeans v ≡ (rowTests y words colours bytes andThen lentTests lent counter)) × (Passed v → RowTested colours bytes y × (lent ≡ true)) ⌝ }
 {
     and_then(
-        scene_tested(y, words, colours, bytes),
+        row_tested(y, words, colours, bytes),
         lent_tested(lent, counter),
     )
 }
@@ -132,7 +132,7 @@ pub fn choice_tested(y: usize, bytes: usize) -> Verdict
     ensures { λ v. ⌜ (verdictMeans v ≡ choiceTests y bytes) × (Passed v → (y < 224) × (bytes ≡ 544)) ⌝ }
 {
     let oam = test(bytes == OAM_SIZE, Refusal::Oam);
-    and_then(row_tested(y), oam)
+    and_then(number_tested(y), oam)
 }
 
 // Of a row of lent pictures that is handed back.
@@ -141,5 +141,5 @@ pub fn part_tested(y: usize, lent: bool, in_range: bool) -> Verdict
 {
     let whole = test(lent, Refusal::Lent);
     let range = test(in_range, Refusal::Argument);
-    and_then(row_tested(y), and_then(whole, range))
+    and_then(number_tested(y), and_then(whole, range))
 }

@@ -14,7 +14,7 @@ ghost use mathlib.Core.Path.{_≡_};
 ghost use Prim.Native.Nat.{_<_, _≤_};
 ghost use lib.ListN.{length};
 ghost use Rattle.lists.specs.Tab.{tab};
-ghost use Rattle.row_tests.specs.Tests.{SceneTested};
+ghost use Rattle.row_tests.specs.Tests.{RowTested};
 ghost use Rattle.laying.specs.Laying.{candidatesOf, layLines};
 ghost use Rattle.sprites.specs.Sprites.{viewOf, chosenSprites, spritePixel, spritesShown, emptyLine};
 ghost use Rattle.sprite_fetch.specs.Fetch.{fetched};
@@ -57,7 +57,7 @@ pub fn fetched_rows(oam: &[u8], r: PPURegisters, y: usize) -> Fetched
 
 // The sprite line: the fetched rows are drawn.
 pub fn line(vram: &[u16], cgram: &[u16], oam: &[u8], r: PPURegisters, y: usize) -> [Candidate; 256]
-    requires { ⌜ SceneTested (length (now cgram)) (length (now oam)) y ⌝ }
+    requires { ⌜ RowTested (length (now cgram)) (length (now oam)) y ⌝ }
     ensures { λ l. ⌜ l ≡ tab 256 (spritePixel (now (vram .entry)) (now (cgram .entry)) (now (oam .entry)) r y) ⌝ }
 {
     draw(fetched_rows(oam, r, y), vram, cgram)
@@ -86,7 +86,7 @@ pub fn candidates(
     x: usize,
     y: usize,
 ) -> Candidates
-    requires { ⌜ SceneTested (length (now cgram)) (length (now oam)) y × (x < 256) ⌝ }
+    requires { ⌜ RowTested (length (now cgram)) (length (now oam)) y × (x < 256) ⌝ }
     ensures { λ c. ⌜ c ≡ candidatesOf (spritesShown r) x (spritePixel (now (vram .entry)) (now (cgram .entry)) (now (oam .entry)) r y x) ⌝ }
 {
     let line = line(vram, cgram, oam, r, y);
@@ -102,7 +102,7 @@ pub fn lay(
     r: PPURegisters,
     y: usize,
 ) -> Lines
-    requires { ⌜ SceneTested (length (now cgram)) (length (now oam)) y ⌝ }
+    requires { ⌜ RowTested (length (now cgram)) (length (now oam)) y ⌝ }
     ensures { λ o. ⌜ o ≡ layLines (spritesShown r) (spritePixel (now (vram .entry)) (now (cgram .entry)) (now (oam .entry)) r y) lines ⌝ }
 {
     let shown = shown(r);

@@ -8,7 +8,7 @@ use borrow.Author.Tests.{eqb-true}
 use borrow.Rule.Slice.PartAt.{part-count}
 use borrow.Rule.Slice.PartMut.{post-is}
 use Rattle.refusal.specs.Verdicts.{passed, by-fine, by-refusal}
-use Rattle.row_tests.specs.Tests.{SceneTested}
+use Rattle.row_tests.specs.Tests.{RowTested}
 use Rattle.renderer.specs.Renderer.{withRow}
 use borrow.Author.Needs.{needs}
 use Rattle.renderer.proofs.render_into_picture.Statement.{statement}
@@ -16,7 +16,7 @@ use Rattle.renderer.proofs.render_into_picture.Tie as tie
 
 -- what the tests leave
 tested : (c : tie.After-enum-told) → let a = c .before .before .before .before .before .before .before .args in
-    SceneTested (length (now (a .cgram))) (length (now (a .oam))) (a .y)
+    RowTested (length (now (a .cgram))) (length (now (a .oam))) (a .y)
 tested c = c .before .before .draw-tested .ensures .1 (passed (c .enum-told .given .1)) .0
 
 whole : (c : tie.After-enum-told) → length (now (c .before .before .before .before .before .before .before .args .picture)) ≡ 172032

@@ -8,10 +8,10 @@ returns : tie.Need-returns
 returns c =
     let r = c .before in
     let o = r .before in (
-      both (c .and-then .ensures .0) (r .row-tested .ensures .0) (o .test .ensures .0),
+      both (c .and-then .ensures .0) (r .number-tested .ensures .0) (o .test .ensures .0),
       λ p.
           let h = c .and-then .ensures .1 p in
-          (r .row-tested .ensures .1 (h .0), eqb-true _ 544 (o .test .ensures .1 (h .1))),
+          (r .number-tested .ensures .1 (h .0), eqb-true _ 544 (o .test .ensures .1 (h .1))),
     )
 
 pub choice-tested-spec : {M : Type 1} → statement M

@@ -7,8 +7,8 @@ returns : tie.Need-returns
 returns c =
     let l = c .before in
     let f = l .before in (
-      both (c .and-then .ensures .0) (f .scene-tested .ensures .0) (l .lent-tested .ensures .0),
-      λ p. let h = c .and-then .ensures .1 p in (f .scene-tested .ensures .1 (h .0), l .lent-tested .ensures .1 (h .1)),
+      both (c .and-then .ensures .0) (f .row-tested .ensures .0) (l .lent-tested .ensures .0),
+      λ p. let h = c .and-then .ensures .1 p in (f .row-tested .ensures .1 (h .0), l .lent-tested .ensures .1 (h .1)),
     )
 
 pub draw-tested-spec : {M : Type 1} → statement M
