@@ -17,9 +17,9 @@ use Rattle.sprite_tile.specs.declared.View.{View}
 abbrev pub doubled : Bool → ℕ → ℕ
 doubled interlace n = cond interlace (n * 2) n
 
--- a vertical flip mirrors it, within its square of w lines: that is the whole of a square sprite, and each half of a tall one
+-- a vertical flip mirrors it within its square of w lines: the square is the whole of a square sprite, and a half of a tall one
 abbrev pub flippedIn : ℕ → Bool → ℕ → ℕ
-flippedIn w flip n = cond flip (n - n % w + (w - 1 - n % w)) n
+flippedIn w flip n = n / w * w + mirrored (n % w) w flip
 
 -- then an odd field adds 1, or takes 1 if flipped
 abbrev pub moved : Bool → Bool → ℕ → ℕ

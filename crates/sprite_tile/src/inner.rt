@@ -37,11 +37,7 @@ fn flip(line: usize, width: usize, flip_y: bool) -> usize
     requires { ⌜ (line < 512) × ((0 < width) × (width ≤ 64)) ⌝ }
     ensures { λ r. ⌜ (r ≡ flippedIn width «flip_y» line) × (r < 576) ⌝ }
 {
-    if flip_y {
-        line - line % width + (width - 1 - line % width)
-    } else {
-        line
-    }
+    line / width * width + mirror(line % width, width, flip_y)
 }
 
 // An odd field shows the other line of the two.
