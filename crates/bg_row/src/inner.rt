@@ -5,7 +5,7 @@ use bg_map::inner::extent;
 use bg_map::inner::map_row;
 use bg_map::inner::source_line;
 use bg_tile::inner::cell;
-use bg_tile::inner::character;
+use bg_tile::inner::character_row;
 use bg_tile::inner::is_direct;
 use bg_tile::inner::palette;
 use line::Candidate;
@@ -34,7 +34,7 @@ fn cells(vram: &[u16], cgram: &[u16], p: BgParams, direct: bool, py: usize) -> [
     let none = Candidate::none();
     let mut out = [none; 264];
     for j in 0..33 {
-        let t = character(vram, p, map_row, (first + j * 8) % width, py);
+        let t = character_row(vram, p, map_row, (first + j * 8) % width, py);
         let colors = palette(cgram, p, t.palette);
         for k in 0..8 {
             out[j * 8 + k] = cell(vram, colors, p, straight, t, k);

@@ -1,5 +1,5 @@
--- A tile's colours lie in colour memory, its characters in their range; and the eight pixels of a character row share their
--- map entry, so that one character row gives them all.
+-- A tile's colours lie in colour memory, its characters in their range; and the eight pixels of a character's row share their
+-- map entry, so that one row of a character gives them all.
 use Prim.Native.Nat.{ℕ, _+_, _*_, _/_, _%_, _^_, _<_, _≤_}
 use mathlib.Core.Path.{_≡_, refl, sym, ap, _∙_}
 use mathlib.Core.Bool.{Bool, true, false, _&&_}
@@ -17,7 +17,8 @@ use Rattle.bg_map.specs.declared.MapEntry.{MapEntry}
 use Rattle.bg_map.specs.Source.{sideOf}
 use Rattle.bg_map.specs.Map.{mapWord, entryOf, entryAt}
 use Rattle.bg_tile.specs.Tile.{fineOf, indexAt, coloursOf, startOf, paletteOf, isEight, pixelUnder, pixelAt}
-use Rattle.bg_tile.specs.Characters.{characterUnder, characterAt, cellIndex, cellIn}
+use Rattle.tiles_row.specs.Rows.{rowIndex}
+use Rattle.bg_tile.specs.Characters.{characterRowUnder, characterRowAt, cellIn}
 
 pub character-small : (n words : ℕ) → words ≤ 32 → n % 1024 * words ≤ 1023 * 32
 character-small n words h = let k : n % 1024 ≤ 1023 = omega arith in mul-le-mul k h
@@ -70,7 +71,7 @@ module _ (px k : ℕ) (even : px % 8 ≡ 0) (h : k < 8) where
         (ap (λ (c : ℕ). entryOf (wordAt v (mapWord (p .«tilemap_base») (p .w64) c (py / sideOf (p .tile16)))))
         (same-tile (p .tile16)))
 
-    same-index : (e : MapEntry) → cellIndex v p (characterUnder p e px py) k ≡ indexAt v p e (px + k) py
+    same-index : (e : MapEntry) → rowIndex v (p .bpp) (characterRowUnder p e px py) k ≡ indexAt v p e (px + k) py
     unfolding indexAt
     same-index e =
         sym
@@ -82,11 +83,11 @@ module _ (px k : ℕ) (even : px % 8 ≡ 0) (h : k < 8) where
         (fineOf py (p .tile16) (e .«flip_y») % 8)
         (pairsOf (p .bpp)))
 
-    -- pixel k of the character row at px is the pixel at px + k
+    -- pixel k of the character's row at px is the pixel at px + k
     pub cell-is-pixel : (g : List ℕ) (direct : Bool) →
-        cellIn v (paletteOf g p (characterAt v p px py .palette)) p (isEight (p .bpp) && direct) (characterAt v p px py) k
+        cellIn v (paletteOf g p (characterRowAt v p px py .palette)) p (isEight (p .bpp) && direct) (characterRowAt v p px py) k
         ≡ pixelAt v g p direct (px + k) py
-    unfolding cellIn characterAt pixelAt
+    unfolding cellIn characterRowAt pixelAt
     cell-is-pixel g direct =
         ap (pixelUnder g p direct (entryAt v p px py)) (same-index (entryAt v p px py))
         ∙ (λ i. pixelUnder g p direct (same-entry i) (indexAt v p (same-entry i) (px + k) py))

@@ -1,5 +1,4 @@
 // What the crates above ask of a background's tiles.
-use crate::Character;
 use bg_map::BgParams;
 use line::Candidate;
 use line::LinePixel;
@@ -7,6 +6,7 @@ use line::Priority;
 use line::inner::bg_index;
 use tiles::BitDepth;
 use tiles::inner::mirror;
+use tiles_row::TileRow;
 ghost use mathlib.Core.Path.{_≡_};
 ghost use mathlib.Core.Bool.{_&&_};
 ghost use Prim.Native.Nat.{_+_, _<_, _≤_};
@@ -15,7 +15,8 @@ ghost use Rattle.line.specs.Pixels.{backgroundOf};
 ghost use Rattle.bg_map.specs.Source.{extentOf};
 ghost use Rattle.bg_map.specs.Rows.{mapRow};
 ghost use Rattle.bg_tile.specs.Tile.{fineOf, characterWord, priorityOf, coloursOf, startOf, paletteOf, isEight, colourIn, pixelAt};
-ghost use Rattle.bg_tile.specs.Characters.{characterAt, cellIn};
+ghost use Rattle.tiles_row.specs.Rows.{TileRowSound};
+ghost use Rattle.bg_tile.specs.Characters.{characterRowAt, cellIn};
 
 // The place in its tile of a place of the map, along one axis.
 fn fine(at: usize, tile16: bool, flip: bool) -> usize
@@ -43,10 +44,10 @@ fn priority(p: BgParams, high: bool) -> Priority
     if high { p.z_high } else { p.z_low }
 }
 
-// The character row that holds pixel (px, py) of the map, in its row of tiles.
-pub fn character(vram: &[u16], p: BgParams, map_row: usize, px: usize, py: usize) -> Character
+// The row of a character that holds pixel (px, py) of the map, in its row of tiles.
+pub fn character_row(vram: &[u16], p: BgParams, map_row: usize, px: usize, py: usize) -> TileRow
     requires { ⌜ ((«map_row» ≡ mapRow p py) × («map_row» < 131072)) × (px < extentOf (p .w64) (p .tile16)) ⌝ }
-    ensures { λ r. ⌜ (r ≡ characterAt (now (vram .entry)) p px py) × ((r .row < 8) × (r .palette < 8)) ⌝ }
+    ensures { λ r. ⌜ (r ≡ characterRowAt (now (vram .entry)) p px py) × TileRowSound r ⌝ }
 {
     let entry = bg_map::inner::entry_in(vram, map_row, p.tile16, px);
     let fx = fine(px, p.tile16, entry.flip_x);
@@ -55,9 +56,9 @@ pub fn character(vram: &[u16], p: BgParams, map_row: usize, px: usize, py: usize
     let words = bpp.tile_words();
     let base = character_word(p.tiledata_base, entry.tile, fx, fy, words);
     let z = priority(p, entry.high);
-    Character {
+    TileRow {
         base,
-        row: fy % 8,
+        row: (fy % 8) as u8,
         flip_x: entry.flip_x,
         palette: entry.palette,
         z,
@@ -143,16 +144,16 @@ pub fn cell(
     colors: &[u16],
     p: BgParams,
     direct: bool,
-    t: Character,
+    t: TileRow,
     k: usize,
 ) -> Candidate
-    requires { ⌜ (length (now colors) ≡ coloursOf (p .bpp)) × ((t .row < 8) × (k < 8)) ⌝ }
+    requires { ⌜ (length (now colors) ≡ coloursOf (p .bpp)) × (TileRowSound t × (k < 8)) ⌝ }
     ensures { λ r. ⌜ r ≡ cellIn (now (vram .entry)) (now (colors .entry)) p direct t k ⌝ }
 {
     let bpp = p.bpp;
     let layer = p.layer;
     let z = t.z;
-    let index = tiles::inner::color_index(vram, bpp, t.base, mirror(k, 8, t.flip_x), t.row);
+    let index = tiles_row::inner::index(vram, bpp, t, k);
     let color = color(colors, direct, t.palette, index);
     let pixel = LinePixel {
         color,
@@ -180,7 +181,7 @@ pub fn pixel(
 {
     let bpp = p.bpp;
     let map_row = bg_map::inner::map_row(p, py);
-    let t = character(vram, p, map_row, px / 8 * 8, py);
+    let t = character_row(vram, p, map_row, px / 8 * 8, py);
     let colors = palette(cgram, p, t.palette);
     cell(vram, colors, p, is_direct(bpp, direct), t, px % 8)
 }

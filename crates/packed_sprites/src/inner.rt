@@ -5,9 +5,9 @@ use packed_tile::inner::of_four;
 use registers::PPURegisters;
 use registers::inner::bit;
 use sprite_fetch::Fetched;
-use sprite_tile::Slice;
 use sprites::inner::tiles;
 use tiles::inner::plane_word;
+use tiles_row::TileRow;
 ghost use mathlib.Core.Path.{_≡_};
 ghost use mathlib.Core.Bool.{cond, not, _||_};
 ghost use Prim.Native.Nat.{_+_, _<_, _≤_};
@@ -19,7 +19,8 @@ ghost use Rattle.line.specs.Pixels.{none};
 ghost use Rattle.line.specs.declared.Layer.the-variants.{Obj};
 ghost use Rattle.packed.specs.Packed.{codeOf, packedIf};
 ghost use Rattle.sprite_tile.specs.Tile.{coloursOf, pixelOf};
-ghost use Rattle.sprite_tile.specs.Slices.{Sound, sliceIndex};
+ghost use Rattle.tiles.specs.declared.BitDepth.the-variants.{Four};
+ghost use Rattle.tiles_row.specs.Rows.{TileRowSound, rowIndex};
 ghost use Rattle.sprite_fetch.specs.Walk.{AllSound, drawnAll};
 ghost use Rattle.sprites.specs.Sprites as sprites;
 
@@ -44,16 +45,16 @@ fn code(palette: u8) -> u32
 }
 
 // The eight pixels of a tile's row.
-fn pixels(vram: &[u16], g: &[u32], s: Slice) -> [u32; 8]
-    requires { ⌜ (length (now g) ≡ 256) × Sound s ⌝ }
-    ensures { λ r. ⌜ r ≡ tab 8 (λ k. packedIf (pixelOf (coloursOf (now (g .entry)) (s .palette)) (s .palette) (s .z) (sliceIndex (now (vram .entry)) s k))) ⌝ }
+fn pixels(vram: &[u16], g: &[u32], t: TileRow) -> [u32; 8]
+    requires { ⌜ (length (now g) ≡ 256) × TileRowSound t ⌝ }
+    ensures { λ r. ⌜ r ≡ tab 8 (λ k. packedIf (pixelOf (coloursOf (now (g .entry)) (t .palette)) (t .palette) (t .z) (rowIndex (now (vram .entry)) Four t k))) ⌝ }
 {
-    let z = s.z;
-    let head = head(code(s.palette), z);
-    let colors = colors(g, s.palette);
-    let w0 = plane_word(vram, s.base, s.row as usize, 0);
-    let w1 = plane_word(vram, s.base, s.row as usize, 1);
-    of_four(w0, w1, s.flip_x, head, colors)
+    let z = t.z;
+    let head = head(code(t.palette), z);
+    let colors = colors(g, t.palette);
+    let w0 = plane_word(vram, t.base, t.row as usize, 0);
+    let w1 = plane_word(vram, t.base, t.row as usize, 1);
+    of_four(w0, w1, t.flip_x, head, colors)
 }
 
 // The pixel that is held after another is drawn over it.
@@ -78,17 +79,17 @@ fn middle(line: &[u32]) -> [u32; 256]
 // The sprite line. A tile that meets the picture is drawn whole, for the line has room for the rest
 // of it.
 fn draw(f: Fetched, vram: &[u16], g: &[u32]) -> [u32; 256]
-    requires { ⌜ (length (now g) ≡ 256) × ((f .count ≤ 34) × AllSound (f .count) (f .slices)) ⌝ }
-    ensures { λ r. ⌜ r ≡ tab 256 (λ x. packedIf (drawnAll (now (vram .entry)) (now (g .entry)) (take (f .count) (f .slices)) x none)) ⌝ }
+    requires { ⌜ (length (now g) ≡ 256) × ((f .count ≤ 34) × AllSound (f .count) (f .rows)) ⌝ }
+    ensures { λ r. ⌜ r ≡ tab 256 (λ x. packedIf (drawnAll (now (vram .entry)) (now (g .entry)) (take (f .count) (f .rows)) x none)) ⌝ }
 {
     let mut line = [0; 272];
     for i in 0..f.count {
-        let s = f.slices[i];
+        let s = f.rows[i];
         let at = (s.tile_x as usize + 8) % 512;
         if at >= 264 {
             continue;
         }
-        let eight = pixels(vram, g, s);
+        let eight = pixels(vram, g, s.tile);
         for k in 0..8 {
             line[at + k] = over(eight[k], line[at + k]);
         }

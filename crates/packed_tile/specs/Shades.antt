@@ -1,4 +1,4 @@
--- A character row's packed pixels, from its plane words. Nothing here is needed to know what a background shows.
+-- The packed pixels of a tile's row, from its plane words. Nothing here is needed to know what a layer shows.
 use Prim.Native.Nat.{ℕ, _+_, _*_, _%_}
 use mathlib.Core.Bool.{cond, not}
 use mathlib.Core.List.{List}

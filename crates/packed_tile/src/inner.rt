@@ -1,24 +1,12 @@
-// What the crates above ask of packed character rows.
-use bg_map::BgParams;
-use bg_tile::Character;
-use bg_tile::inner::palette_start;
+// What the crates above ask of the packed pixels of a tile's row.
 use colour::direct_color;
-use line::inner::bg_index;
-use packed::inner::head;
 use packed::inner::pick;
-use tiles::BitDepth;
 use tiles::inner::mirror;
-use tiles::inner::plane_word;
 ghost use mathlib.Core.Path.{_≡_};
-ghost use mathlib.Core.Bool.{_&&_};
 ghost use Prim.Native.Nat.{_<_};
 ghost use lib.ListN.{length};
 ghost use Rattle.lists.specs.Tab.{tab};
 ghost use Rattle.tiles.specs.Tiles.{pairOf, mirrored};
-ghost use Rattle.line.specs.Pixels.{backgroundOf};
-ghost use Rattle.packed.specs.Packed.{packedIf};
-ghost use Rattle.bg_tile.specs.Tile.{paletteOf, isEight};
-ghost use Rattle.bg_tile.specs.Characters.{cellIn};
 ghost use Rattle.packed_tile.specs.Shades.{fourOf, eightOf, shade, shadeDirect};
 
 fn widened(color: u16) -> u32
@@ -37,17 +25,6 @@ pub fn wide(cgram: &[u16]) -> [u32; 256]
         out[i] = widened(cgram[i]);
     }
     out
-}
-
-// A tile's colours, a part of it.
-fn palette<'a>(g: &'a [u32], p: BgParams, n: u8) -> &'a [u32]
-    requires { ⌜ (length (now g) ≡ 256) × ((backgroundOf (p .layer) < 4) × (n < 8)) ⌝ }
-    ensures { λ r. ⌜ now r ≡ paletteOf (now (g .entry)) p n ⌝ }
-{
-    let bpp = p.bpp;
-    let start = palette_start(p, n);
-    let end = start + bg_tile::inner::colors(bpp);
-    &g[start..end]
 }
 
 // The packed pixel of a colour index, under its head.
@@ -89,7 +66,7 @@ fn index_eight(w0: u16, w1: u16, w2: u16, w3: u16, col: u32) -> u32
     low + 16 * high
 }
 
-// The columns of a character row in the order in which they are shown. They are found before the
+// The columns of a tile's row in the order in which they are shown. They are found before the
 // pixels, so that the pixels' loop asks nothing of the flip.
 fn turned(flip: bool) -> [u32; 8]
     ensures { λ r. ⌜ r ≡ tab 8 (λ k. mirrored k 8 flip) ⌝ }
@@ -102,7 +79,7 @@ fn turned(flip: bool) -> [u32; 8]
 }
 
 // Eight pixels of four colours.
-fn of_two(w0: u16, flip: bool, head: u32, colors: &[u32]) -> [u32; 8]
+pub fn of_two(w0: u16, flip: bool, head: u32, colors: &[u32]) -> [u32; 8]
     requires { ⌜ (length (now colors) ≡ 4) × (head < 134742016) ⌝ }
     ensures { λ r. ⌜ r ≡ tab 8 (λ k. shade (now (colors .entry)) head (pairOf w0 (mirrored k 8 flip))) ⌝ }
 {
@@ -128,7 +105,7 @@ pub fn of_four(w0: u16, w1: u16, flip: bool, head: u32, colors: &[u32]) -> [u32;
 }
 
 // Of 256.
-fn of_eight(w0: u16, w1: u16, w2: u16, w3: u16, flip: bool, head: u32, colors: &[u32]) -> [u32; 8]
+pub fn of_eight(w0: u16, w1: u16, w2: u16, w3: u16, flip: bool, head: u32, colors: &[u32]) -> [u32; 8]
     requires { ⌜ (length (now colors) ≡ 256) × (head < 134742016) ⌝ }
     ensures { λ r. ⌜ r ≡ tab 8 (λ k. shade (now (colors .entry)) head (eightOf w0 w1 w2 w3 (mirrored k 8 flip))) ⌝ }
 {
@@ -153,7 +130,7 @@ fn shaded_direct(palette: u8, head: u32, index: u32) -> u32
 }
 
 // Of direct colour.
-fn of_direct(w0: u16, w1: u16, w2: u16, w3: u16, flip: bool, head: u32, palette: u8) -> [u32; 8]
+pub fn of_direct(w0: u16, w1: u16, w2: u16, w3: u16, flip: bool, head: u32, palette: u8) -> [u32; 8]
     requires { ⌜ head < 134742016 ⌝ }
     ensures { λ r. ⌜ r ≡ tab 8 (λ k. shadeDirect palette head (eightOf w0 w1 w2 w3 (mirrored k 8 flip))) ⌝ }
 {
@@ -163,33 +140,4 @@ fn of_direct(w0: u16, w1: u16, w2: u16, w3: u16, flip: bool, head: u32, palette:
         out[k] = shaded_direct(palette, head, index_eight(w0, w1, w2, w3, cols[k]));
     }
     out
-}
-
-// The eight pixels of a character row.
-pub fn eight(vram: &[u16], g: &[u32], p: BgParams, direct: bool, t: Character) -> [u32; 8]
-    requires { ⌜ ((length (now g) ≡ 256) × (backgroundOf (p .layer) < 4)) × ((t .row < 8) × (t .palette < 8)) ⌝ }
-    ensures { λ r. ⌜ r ≡ tab 8 (λ k. packedIf (cellIn (now (vram .entry)) (paletteOf (now (g .entry)) p (t .palette)) p (isEight (p .bpp) && direct) t k)) ⌝ }
-{
-    let bpp = p.bpp;
-    let layer = p.layer;
-    let z = t.z;
-    let head = head(bg_index(layer) as u32, z);
-    let colors = palette(g, p, t.palette);
-    let w0 = plane_word(vram, t.base, t.row, 0);
-    match bpp {
-        BitDepth::Two => of_two(w0, t.flip_x, head, colors),
-        BitDepth::Four => {
-            let w1 = plane_word(vram, t.base, t.row, 1);
-            of_four(w0, w1, t.flip_x, head, colors)
-        }
-        BitDepth::Eight => {
-            let w1 = plane_word(vram, t.base, t.row, 1);
-            let w2 = plane_word(vram, t.base, t.row, 2);
-            let w3 = plane_word(vram, t.base, t.row, 3);
-            if direct {
-                return of_direct(w0, w1, w2, w3, t.flip_x, head, t.palette);
-            }
-            of_eight(w0, w1, w2, w3, t.flip_x, head, colors)
-        }
-    }
 }

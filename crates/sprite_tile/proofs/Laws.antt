@@ -6,10 +6,12 @@ use mathlib.Core.List.{List}
 use native.Mathlib.Omega.{arith}
 use native.Mathlib.Nat.{mod-add-div', mod-lt, mul-assoc}
 use lib.ListN.{length, length-take, length-drop}
+use Rattle.tiles.specs.declared.BitDepth.the-variants.{Four}
 use Rattle.tiles.specs.Tiles.{indexOf, mirrored}
 use Rattle.oam.specs.declared.Sprite.{Sprite}
 use Rattle.sprite_tile.specs.Tile.{doubled, flippedIn, tileWord, indexAt, coloursOf}
-use Rattle.sprite_tile.specs.Slices.{sliceOf, sliceIndex}
+use Rattle.tiles_row.specs.Rows.{rowIndex}
+use Rattle.sprite_tile.specs.Placed.{placedOf}
 
 -- the first line of a line's square
 pub square-start : (w n : ℕ) → n / w * w ≤ n
@@ -50,8 +52,8 @@ module _ (w t k : ℕ) (whole : w % 8 ≡ 0) (in-width : t < w / 8) (h : k < 8) 
   mirrored-place false = omega arith
 
   -- so pixel k of tile t is what the sprite has there
-  pub slice-index : (v : List ℕ) (s : Sprite) (line : ℕ) →
-      sliceIndex v (sliceOf s w line t) k ≡ indexAt v s (mirrored (t * 8 + k) w (s .«flip_x»)) line
-  unfolding sliceOf
-  slice-index v s line =
+  pub placed-index : (v : List ℕ) (s : Sprite) (line : ℕ) →
+      rowIndex v Four (placedOf s w line t .tile) k ≡ indexAt v s (mirrored (t * 8 + k) w (s .«flip_x»)) line
+  unfolding placedOf
+  placed-index v s line =
       sym (λ i. indexOf v (tileWord s (mirrored-tile (s .«flip_x») i) (line / 8)) (mirrored-place (s .«flip_x») i) (line % 8) 2)

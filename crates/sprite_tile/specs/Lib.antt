@@ -1,3 +1,3 @@
 pub mod Tile
 pub mod Lines
-pub mod Slices
+pub mod Placed

@@ -1,5 +1,5 @@
 // What the crates above ask of a sprite's tiles.
-use crate::Slice;
+use crate::PlacedRow;
 use crate::View;
 use line::Candidate;
 use line::Layer;
@@ -9,15 +9,15 @@ use oam::Sprite;
 use oam::SpriteSize;
 use oam::inner::nine_bits;
 use sprite_row::inner::sprite_line;
-use tiles::inner::decode_4bpp;
 use tiles::inner::mirror;
+use tiles_row::TileRow;
 ghost use mathlib.Core.Path.{_≡_};
 ghost use mathlib.Core.Bool.{true};
 ghost use Prim.Native.Nat.{_*_, _/_, _<_, _≤_};
 ghost use lib.ListN.{length};
 ghost use Rattle.oam.specs.Sprites.{Sized};
 ghost use Rattle.sprite_tile.specs.Tile.{doubled, flippedIn, moved, lineIn, tileWord, coloursOf, pixelOf};
-ghost use Rattle.sprite_tile.specs.Slices.{Sound, sliceOf, sliceIndex};
+ghost use Rattle.sprite_tile.specs.Placed.{PlacedSound, placedOf};
 
 // Where a sprite's colours begin in colour memory, and how many each of its palettes has.
 const OBJ_COLORS: usize = 128;
@@ -74,21 +74,24 @@ fn tile_word(s: Sprite, column: usize, row: usize) -> usize
 }
 
 // Tile t of a sprite, from the left, at a line of the sprite.
-pub fn slice(s: Sprite, size: SpriteSize, line: usize, t: usize) -> Slice
+pub fn placed(s: Sprite, size: SpriteSize, line: usize, t: usize) -> PlacedRow
     requires { ⌜ (Sized size × (s .palette < 8)) × ((line < 577) × (t < size .width / 8)) ⌝ }
-    ensures { λ r. ⌜ (r ≡ sliceOf s (size .width) line t) × Sound r ⌝ }
+    ensures { λ r. ⌜ (r ≡ placedOf s (size .width) line t) × PlacedSound r ⌝ }
 {
     let column = mirror(t, size.width as usize / 8, s.flip_x);
     let base = tile_word(s, column, line / 8);
     let x9 = nine_bits(s.x);
     let z = Priority::obj(s.priority);
-    Slice {
-        tile_x: (x9 + t as u16 * 8) % 512,
+    let tile = TileRow {
         base,
         row: (line % 8) as u8,
         flip_x: s.flip_x,
         palette: s.palette,
         z,
+    };
+    PlacedRow {
+        tile_x: (x9 + t as u16 * 8) % 512,
+        tile,
     }
 }
 
@@ -100,14 +103,6 @@ pub fn palette<'a>(cgram: &'a [u16], n: u8) -> &'a [u16]
     let start = OBJ_COLORS + PALETTE_COLORS * n as usize;
     let end = start + PALETTE_COLORS;
     &cgram[start..end]
-}
-
-// The colour index of pixel k of a tile's row, from the left.
-pub fn index(vram: &[u16], s: Slice, k: usize) -> u8
-    requires { ⌜ Sound s × (k < 8) ⌝ }
-    ensures { λ r. ⌜ (r ≡ sliceIndex (now (vram .entry)) s k) × (r < 16) ⌝ }
-{
-    decode_4bpp(vram, s.base, mirror(k, 8, s.flip_x), s.row as usize)
 }
 
 // The pixel of a colour index, of a sprite with this palette, its colours and this priority. Sprites

@@ -107,7 +107,7 @@ fn view(r: PPURegisters, y: usize) -> View
 // The fetched tiles of row y: the sprites are chosen, and their tiles fetched.
 pub fn tiles(oam: &[u8], r: PPURegisters, y: usize) -> Fetched
     requires { ⌜ (length (now oam) ≡ 544) × (y < 224) ⌝ }
-    ensures { λ f. ⌜ (f ≡ fetchedList (viewOf r y) (fetched 34 (r .objsel) (chosenSprites (now (oam .entry)) r y))) × ((f .count ≤ 34) × AllSound (f .count) (f .slices)) ⌝ }
+    ensures { λ f. ⌜ (f ≡ fetchedList (viewOf r y) (fetched 34 (r .objsel) (chosenSprites (now (oam .entry)) r y))) × ((f .count ≤ 34) × AllSound (f .count) (f .rows)) ⌝ }
 {
     let view = view(r, y);
     let chosen = choose(oam, view.row, view.objsel, r.oamadd, view.obj_interlace);

@@ -14,9 +14,9 @@ cell-requires c κs =
     let t = c .before .before in
     let s = t .before .before .before .before in
     let long =
-    palette-length (now (s .args .cgram)) (s .args .p) (t .character .result .palette) (s .pre .0 .0) (s .pre .0 .1)
-    (t .character .ensures .1 .1) in
-    (rw (c .before .palette .ensures) long, (t .character .ensures .1 .0, omega arith))
+    palette-length (now (s .args .cgram)) (s .args .p) (t .character-row .result .palette) (s .pre .0 .0) (s .pre .0 .1)
+    (t .character-row .ensures .1 .palette-in) in
+    (rw (c .before .palette .ensures) long, (t .character-row .ensures .1, omega arith))
 
 returns : tie.Need-returns
 returns c =
@@ -28,7 +28,7 @@ returns c =
     let g = now (a .cgram) in
     let n = a .px / 8 * 8 in
     let k = a .px % 8 in
-    let ch = t .character .ensures .0 in
+    let ch = t .character-row .ensures .0 in
     let colours = q .palette .ensures ∙ (λ j. paletteOf g (a .p) (ch j .palette)) in
     let whole : n + k ≡ a .px = omega arith in
     c .cell .ensures

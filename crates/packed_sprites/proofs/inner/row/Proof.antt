@@ -46,7 +46,7 @@ returns c =
     let view = viewOf (a .r) (a .y) in
     let line = ap (map packedIf) (drawn-line v g view (byte s) chosen (f .tiles .ensures .0)) in
     c .draw .ensures
-    ∙ (sym (map-tab packedIf 256 (λ x. drawnAll v g (take (t .count) (t .slices)) x none))
+    ∙ (sym (map-tab packedIf 256 (λ x. drawnAll v g (take (t .count) (t .rows)) x none))
     ∙ (line
     ∙ (map-tab packedIf 256 (linePixel v g view 34 chosen)
     ∙ ((λ i. tab 256 (shown s (sym (f .before .if1 .taken) i))) ∙ by-bits b))))

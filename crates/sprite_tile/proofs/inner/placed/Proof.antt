@@ -4,13 +4,13 @@ use mathlib.Core.Path.{_∙_}
 use Prim.Native.Nat.{_*_, _+_, _/_, _%_}
 use Rattle.signed.proofs.Signed.{remainder-of}
 use Rattle.sprite_tile.specs.Tile.{tileWord}
-use Rattle.sprite_tile.specs.Slices.{sliceOf}
+use Rattle.sprite_tile.specs.Placed.{placedOf}
 use borrow.Author.Needs.{needs}
-use Rattle.sprite_tile.proofs.inner.slice.Statement.{statement}
-use Rattle.sprite_tile.proofs.inner.slice.Tie as tie
+use Rattle.sprite_tile.proofs.inner.placed.Statement.{statement}
+use Rattle.sprite_tile.proofs.inner.placed.Tie as tie
 
 returns : tie.Need-returns
-unfolding sliceOf
+unfolding placedOf
 returns c =
     let n = c .before in
     let w = n .before .before in
@@ -21,17 +21,19 @@ returns c =
     let word = w .tile-word .ensures ∙ (λ i. tileWord (a .s) (m .mirror .ensures .0 i) (a .line / 8)) in (
       λ i. record {
         «tile_x» = (x i + a .t * 8) % 512;
-        base = word i;
-        row = a .line % 8;
-        «flip_x» = a .s .«flip_x»;
-        palette = a .s .palette;
-        z = c .obj .ensures i;
+        tile = record {
+          base = word i;
+          row = a .line % 8;
+          «flip_x» = a .s .«flip_x»;
+          palette = a .s .palette;
+          z = c .obj .ensures i;
+        };
       },
-      record { nine = omega arith; row-in = omega arith; palette-in = s .pre .0 .1 },
+      record { nine = omega arith; sound = record { row-in = omega arith; palette-in = s .pre .0 .1 } },
     )
 
-pub slice-spec : {M : Type 1} → statement M
-slice-spec =
+pub placed-spec : {M : Type 1} → statement M
+placed-spec =
     tie.close
     (tie.spec
     (λ c. search needs)

@@ -1,4 +1,4 @@
--- A character row's packed pixels are its pixels, packed.
+-- The packed pixels of a character's row are its pixels, packed.
 use Prim.Native.Nat.{ℕ, _+_, _%_, _<_}
 use mathlib.Core.Path.{_≡_, refl, sym, _∙_}
 use mathlib.Core.Bool.{Bool, true, false, cond, not}
@@ -8,15 +8,15 @@ use lib.ListN.{getD}
 use lib.Dec.{eqb}
 use Rattle.colour.specs.Colour.{directColour}
 use Rattle.colour.specs.Bit15.{direct-clear}
-use Rattle.tiles.specs.Tiles.{planeWord, pairOf, indexOf}
 use Rattle.line.specs.declared.Layer.{Layer}
 use Rattle.line.specs.declared.Layer.the-variants.{Backdrop, Bg1, Bg2, Bg3, Bg4, Obj}
 use Rattle.line.specs.Pixels.{backgroundOf}
 use Rattle.packed.specs.Packed.{codeOf, headOf, packed, packedIf}
 use Rattle.bg_map.specs.declared.BgParams.{BgParams}
-use Rattle.bg_tile.specs.declared.Character.{Character}
-use Rattle.bg_tile.specs.Characters.{cellIndex, cellIn}
-use Rattle.packed_tile.specs.Shades.{fourOf, eightOf, shade, shadeDirect}
+use Rattle.tiles_row.specs.declared.TileRow.{TileRow}
+use Rattle.tiles_row.specs.Rows.{rowIndex}
+use Rattle.bg_tile.specs.Characters.{cellIn}
+use Rattle.packed_tile.specs.Shades.{shade, shadeDirect}
 
 -- a background's code is its number
 code-is : (l : Layer) → backgroundOf l < 4 → backgroundOf l ≡ codeOf l false
@@ -27,24 +27,8 @@ code-is Bg3 h = refl
 code-is Bg4 h = refl
 code-is Obj h = absurd (omega arith)
 
--- the indices, from the plane words
-module _ (v : List ℕ) (base x y : ℕ) where
-  pub two-is : pairOf (planeWord v base y 0) x ≡ indexOf v base x y 1
-  unfolding indexOf
-  two-is = omega arith
-
-  pub four-is : fourOf (planeWord v base y 0) (planeWord v base y 1) x ≡ indexOf v base x y 2
-  unfolding indexOf
-  four-is = omega arith
-
-  pub eight-is :
-      eightOf (planeWord v base y 0) (planeWord v base y 1) (planeWord v base y 2) (planeWord v base y 3) x
-      ≡ indexOf v base x y 4
-  unfolding indexOf
-  eight-is = omega arith
-
-module _ (v colours : List ℕ) (p : BgParams) (t : Character) (k : ℕ) {b head i : ℕ} (low : backgroundOf (p .layer) < 4)
-    (code : b ≡ backgroundOf (p .layer)) (heads : head ≡ headOf b (t .z)) (index : i ≡ cellIndex v p t k) where
+module _ (v colours : List ℕ) (p : BgParams) (t : TileRow) (k : ℕ) {b head i : ℕ} (low : backgroundOf (p .layer) < 4)
+    (code : b ≡ backgroundOf (p .layer)) (heads : head ≡ headOf b (t .z)) (index : i ≡ rowIndex v (p .bpp) t k) where
   over-index : head ≡ headOf (codeOf (p .layer) false) (t .z)
   over-index = heads ∙ (λ j. headOf ((code ∙ code-is (p .layer) low) j) (t .z))
 

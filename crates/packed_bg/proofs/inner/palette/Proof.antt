@@ -2,8 +2,8 @@ use Prim.Native.Nat.{_+_, _-_}
 use mathlib.Core.Path.{_≡_}
 use native.Mathlib.Omega.{arith}
 use borrow.Author.Needs.{needs}
-use Rattle.packed_tile.proofs.inner.palette.Statement.{statement}
-use Rattle.packed_tile.proofs.inner.palette.Tie as tie
+use Rattle.packed_bg.proofs.inner.palette.Statement.{statement}
+use Rattle.packed_bg.proofs.inner.palette.Tie as tie
 
 returns : tie.Need-returns
 returns c = let d = c .before in
