@@ -10,7 +10,7 @@ use Rattle.bg_map.specs.declared.MapEntry.{MapEntry}
 use Rattle.bg_map.specs.Map.{entryAt}
 use Rattle.tiles_row.specs.declared.TileRow.{TileRow}
 use Rattle.tiles_row.specs.Rows.{rowIndex}
-use Rattle.bg_tile.specs.Tile.{fineOf, characterWord, priorityOf, colourIn, pixelOf}
+use Rattle.bg_tile.specs.Tile.{fineOf, characterWord, priorityOf, colourIn, bgPixelOf}
 
 -- the row of a character that holds pixel (px, py), under its entry
 abbrev pub characterRowUnder : BgParams → MapEntry → ℕ → ℕ → TileRow
@@ -28,4 +28,4 @@ characterRowAt v p px py = characterRowUnder p (entryAt v p px py) px py
 -- its pixel k, where the tile has these colours
 unfoldable pub cellIn : List ℕ → List ℕ → BgParams → Bool → TileRow → ℕ → Candidate
 cellIn v colours p direct t k =
-    pixelOf (rowIndex v (p .bpp) t k) (colourIn colours direct (t .palette) (rowIndex v (p .bpp) t k)) (t .z) p
+    bgPixelOf (rowIndex v (p .bpp) t k) (colourIn colours direct (t .palette) (rowIndex v (p .bpp) t k)) (t .z) p

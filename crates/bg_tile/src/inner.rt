@@ -14,7 +14,7 @@ ghost use lib.ListN.{length};
 ghost use Rattle.line.specs.Pixels.{backgroundOf};
 ghost use Rattle.bg_map.specs.Source.{extentOf};
 ghost use Rattle.bg_map.specs.Rows.{mapRow};
-ghost use Rattle.bg_tile.specs.Tile.{fineOf, characterWord, priorityOf, coloursOf, startOf, paletteOf, isEight, colourIn, pixelAt};
+ghost use Rattle.bg_tile.specs.Tile.{fineOf, characterWord, priorityOf, colourCount, startOf, bgColours, isEight, colourIn, pixelAt};
 ghost use Rattle.tiles_row.specs.Rows.{TileRowSound};
 ghost use Rattle.bg_tile.specs.Characters.{characterRowAt, cellIn};
 
@@ -67,7 +67,7 @@ pub fn character_row(vram: &[u16], p: BgParams, map_row: usize, px: usize, py: u
 
 // How many colours a tile has.
 pub fn colors(bpp: BitDepth) -> usize
-    ensures { λ r. ⌜ r ≡ coloursOf bpp ⌝ }
+    ensures { λ r. ⌜ r ≡ colourCount bpp ⌝ }
 {
     match bpp {
         BitDepth::Two => 4,
@@ -97,7 +97,7 @@ fn start_of(bpp: BitDepth, own: bool, bg: usize, n: u8) -> usize
 // Where a tile's colours begin; they end in colour memory.
 pub fn palette_start(p: BgParams, n: u8) -> usize
     requires { ⌜ (backgroundOf (p .layer) < 4) × (n < 8) ⌝ }
-    ensures { λ r. ⌜ (r ≡ startOf (p .bpp) (p .«own_palettes») (backgroundOf (p .layer)) n) × (r + coloursOf (p .bpp) ≤ 256) ⌝ }
+    ensures { λ r. ⌜ (r ≡ startOf (p .bpp) (p .«own_palettes») (backgroundOf (p .layer)) n) × (r + colourCount (p .bpp) ≤ 256) ⌝ }
 {
     let bpp = p.bpp;
     let layer = p.layer;
@@ -107,7 +107,7 @@ pub fn palette_start(p: BgParams, n: u8) -> usize
 // A tile's colours, a part of colour memory.
 pub fn palette<'a>(cgram: &'a [u16], p: BgParams, n: u8) -> &'a [u16]
     requires { ⌜ (length (now cgram) ≡ 256) × ((backgroundOf (p .layer) < 4) × (n < 8)) ⌝ }
-    ensures { λ r. ⌜ now r ≡ paletteOf (now (cgram .entry)) p n ⌝ }
+    ensures { λ r. ⌜ now r ≡ bgColours (now (cgram .entry)) p n ⌝ }
 {
     let bpp = p.bpp;
     let start = palette_start(p, n);
@@ -147,7 +147,7 @@ pub fn cell(
     t: TileRow,
     k: usize,
 ) -> Candidate
-    requires { ⌜ (length (now colors) ≡ coloursOf (p .bpp)) × (TileRowSound t × (k < 8)) ⌝ }
+    requires { ⌜ (length (now colors) ≡ colourCount (p .bpp)) × (TileRowSound t × (k < 8)) ⌝ }
     ensures { λ r. ⌜ r ≡ cellIn (now (vram .entry)) (now (colors .entry)) p direct t k ⌝ }
 {
     let bpp = p.bpp;

@@ -25,7 +25,7 @@ ghost use Rattle.line.specs.Pixels.{backgroundOf};
 ghost use Rattle.packed.specs.Packed.{packedIf};
 ghost use Rattle.bg_map.specs.Source.{extentOf};
 ghost use Rattle.tiles_row.specs.Rows.{TileRowSound};
-ghost use Rattle.bg_tile.specs.Tile.{paletteOf, isEight};
+ghost use Rattle.bg_tile.specs.Tile.{bgColours, isEight};
 ghost use Rattle.bg_tile.specs.Characters.{cellIn};
 ghost use Rattle.bg_row.specs.Row.{Sound, bgPixel};
 ghost use Rattle.bg_row.specs.Cells.{cellAt};
@@ -34,7 +34,7 @@ ghost use Rattle.modes.specs.Modes.{paramsOf};
 // A tile's colours, a part of colour memory in wide words.
 fn palette<'a>(g: &'a [u32], p: BgParams, n: u8) -> &'a [u32]
     requires { ⌜ (length (now g) ≡ 256) × ((backgroundOf (p .layer) < 4) × (n < 8)) ⌝ }
-    ensures { λ r. ⌜ now r ≡ paletteOf (now (g .entry)) p n ⌝ }
+    ensures { λ r. ⌜ now r ≡ bgColours (now (g .entry)) p n ⌝ }
 {
     let bpp = p.bpp;
     let start = palette_start(p, n);
@@ -45,7 +45,7 @@ fn palette<'a>(g: &'a [u32], p: BgParams, n: u8) -> &'a [u32]
 // The eight pixels of a character's row.
 pub fn eight(vram: &[u16], g: &[u32], p: BgParams, direct: bool, t: TileRow) -> [u32; 8]
     requires { ⌜ ((length (now g) ≡ 256) × (backgroundOf (p .layer) < 4)) × TileRowSound t ⌝ }
-    ensures { λ r. ⌜ r ≡ tab 8 (λ k. packedIf (cellIn (now (vram .entry)) (paletteOf (now (g .entry)) p (t .palette)) p (isEight (p .bpp) && direct) t k)) ⌝ }
+    ensures { λ r. ⌜ r ≡ tab 8 (λ k. packedIf (cellIn (now (vram .entry)) (bgColours (now (g .entry)) p (t .palette)) p (isEight (p .bpp) && direct) t k)) ⌝ }
 {
     let bpp = p.bpp;
     let layer = p.layer;
@@ -155,7 +155,14 @@ fn drawn(out: &mut [u32], vram: &[u16], g: &[u32], r: PPURegisters, p: BgParams,
 }
 
 // The same of background bg into an empty row, where a screen lights it, and otherwise nothing.
-pub fn row(out: &mut [u32], vram: &[u16], g: &[u32], r: PPURegisters, y: usize, bg: usize)
+pub fn background_row(
+    out: &mut [u32],
+    vram: &[u16],
+    g: &[u32],
+    r: PPURegisters,
+    y: usize,
+    bg: usize,
+)
     requires { ⌜ (now out ≡ tab 256 (λ x. 0)) × ((length (now g) ≡ 256) × ((y < 224) × (bg < 4))) ⌝ }
     ensures { λ u. ⌜ now (out .exit) ≡ tab 256 (λ x. cond (paramsOf r bg .«to_main» || paramsOf r bg .«to_sub») (packedIf (bgPixel (now (vram .entry)) (now (g .entry)) r (paramsOf r bg) y x)) 0) ⌝ }
 {

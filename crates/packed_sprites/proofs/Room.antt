@@ -15,7 +15,7 @@ use Rattle.packed.specs.Packed.{packedIf}
 use Rattle.tiles.specs.declared.BitDepth.the-variants.{Four}
 use Rattle.tiles_row.specs.Rows.{rowIndex}
 use Rattle.sprite_tile.specs.declared.PlacedRow.{PlacedRow}
-use Rattle.sprite_tile.specs.Tile.{coloursOf, pixelOf}
+use Rattle.sprite_tile.specs.Tile.{spriteColours, spritePixelOf}
 use Rattle.sprite_fetch.specs.Walk.{blankRow, offsetIn, drawnTo, drawnAll}
 use Rattle.sprite_fetch.proofs.Draws.{after, other, drawn-append}
 use Rattle.packed_sprites.proofs.Over.{over-is}
@@ -57,7 +57,7 @@ module _ (v g : List ℕ) (s : PlacedRow) (held : ℕ → Candidate) (nine : s .
     here x h e = omega arith
 
     abbrev pixel : Candidate
-    pixel = pixelOf (coloursOf g (s .tile .palette)) (s .tile .palette) (s .tile .z) (rowIndex v Four (s .tile) k)
+    pixel = spritePixelOf (spriteColours g (s .tile .palette)) (s .tile .palette) (s .tile .z) (rowIndex v Four (s .tile) k)
 
     -- the pixel's column
     drawn-at : (x : ℕ) → offsetIn s x ≡ k → cond (pixel .opaque) pixel (after v g s held k x) ≡ after v g s held (k + 1) x

@@ -3,8 +3,11 @@ use packed::inner::head;
 use packed::inner::pick;
 use packed_tile::inner::of_four;
 use registers::PPURegisters;
+use registers::constants::OBJ_LAYER;
 use registers::inner::bit;
 use sprite_fetch::Fetched;
+use sprite_tile::inner::OBJ_COLORS;
+use sprite_tile::inner::PALETTE_COLORS;
 use sprites::inner::tiles;
 use tiles::inner::plane_word;
 use tiles_row::TileRow;
@@ -18,22 +21,19 @@ ghost use Rattle.registers.specs.Bits.{bitOf};
 ghost use Rattle.line.specs.Pixels.{none};
 ghost use Rattle.line.specs.declared.Layer.the-variants.{Obj};
 ghost use Rattle.packed.specs.Packed.{codeOf, packedIf};
-ghost use Rattle.sprite_tile.specs.Tile.{coloursOf, pixelOf};
+ghost use Rattle.sprite_tile.specs.Tile.{spriteColours, spritePixelOf};
 ghost use Rattle.tiles.specs.declared.BitDepth.the-variants.{Four};
 ghost use Rattle.tiles_row.specs.Rows.{TileRowSound, rowIndex};
 ghost use Rattle.sprite_fetch.specs.Walk.{AllSound, drawnAll};
 ghost use Rattle.sprites.specs.Sprites as sprites;
 
-// The sprites' bit of tm and ts.
-const OBJ: usize = 4;
-
 // A palette's colours, a part of colour memory.
 fn colors<'a>(g: &'a [u32], n: u8) -> &'a [u32]
     requires { ⌜ (length (now g) ≡ 256) × (n < 8) ⌝ }
-    ensures { λ r. ⌜ now r ≡ coloursOf (now (g .entry)) n ⌝ }
+    ensures { λ r. ⌜ now r ≡ spriteColours (now (g .entry)) n ⌝ }
 {
-    let start = 128 + 16 * n as usize;
-    let end = start + 16;
+    let start = OBJ_COLORS + PALETTE_COLORS * n as usize;
+    let end = start + PALETTE_COLORS;
     &g[start..end]
 }
 
@@ -47,7 +47,7 @@ fn code(palette: u8) -> u32
 // The eight pixels of a tile's row.
 fn pixels(vram: &[u16], g: &[u32], t: TileRow) -> [u32; 8]
     requires { ⌜ (length (now g) ≡ 256) × TileRowSound t ⌝ }
-    ensures { λ r. ⌜ r ≡ tab 8 (λ k. packedIf (pixelOf (coloursOf (now (g .entry)) (t .palette)) (t .palette) (t .z) (rowIndex (now (vram .entry)) Four t k))) ⌝ }
+    ensures { λ r. ⌜ r ≡ tab 8 (λ k. packedIf (spritePixelOf (spriteColours (now (g .entry)) (t .palette)) (t .palette) (t .z) (rowIndex (now (vram .entry)) Four t k))) ⌝ }
 {
     let z = t.z;
     let head = head(code(t.palette), z);
@@ -98,11 +98,11 @@ fn draw(f: Fetched, vram: &[u16], g: &[u32]) -> [u32; 256]
 }
 
 // The sprite line, where a screen lights the sprites, and otherwise nothing.
-pub fn row(vram: &[u16], g: &[u32], oam: &[u8], r: PPURegisters, y: usize) -> [u32; 256]
+pub fn sprites_row(vram: &[u16], g: &[u32], oam: &[u8], r: PPURegisters, y: usize) -> [u32; 256]
     requires { ⌜ sprites.Sound (length (now g)) (length (now oam)) y ⌝ }
     ensures { λ l. ⌜ l ≡ tab 256 (λ x. cond (bitOf (r .tm) 4 || bitOf (r .ts) 4) (packedIf (sprites.spritePixel (now (vram .entry)) (now (g .entry)) (now (oam .entry)) r y x)) 0) ⌝ }
 {
-    if bit(r.tm, OBJ) | bit(r.ts, OBJ) {
+    if bit(r.tm, OBJ_LAYER) | bit(r.ts, OBJ_LAYER) {
         return draw(tiles(oam, r, y), vram, g);
     }
     [0; 256]

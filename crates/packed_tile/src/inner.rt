@@ -6,7 +6,8 @@ ghost use mathlib.Core.Path.{_≡_};
 ghost use Prim.Native.Nat.{_<_};
 ghost use lib.ListN.{length};
 ghost use Rattle.lists.specs.Tab.{tab};
-ghost use Rattle.tiles.specs.Tiles.{pairOf, mirrored};
+ghost use Rattle.tiles.specs.Tiles.{twoBits, mirrored};
+ghost use Rattle.packed.specs.Packed.{headEnd};
 ghost use Rattle.packed_tile.specs.Shades.{fourOf, eightOf, shade, shadeDirect};
 
 fn widened(color: u16) -> u32
@@ -29,7 +30,7 @@ pub fn wide(cgram: &[u16]) -> [u32; 256]
 
 // The packed pixel of a colour index, under its head.
 fn shaded(colors: &[u32], head: u32, index: u32) -> u32
-    requires { ⌜ (index < length (now colors)) × (head < 134742016) ⌝ }
+    requires { ⌜ (index < length (now colors)) × (head < headEnd) ⌝ }
     ensures { λ r. ⌜ r ≡ shade (now (colors .entry)) head index ⌝ }
 {
     let at = index as usize;
@@ -40,7 +41,7 @@ fn shaded(colors: &[u32], head: u32, index: u32) -> u32
 // eight columns are then found at once.
 fn two_bits(word: u16, col: u32) -> u32
     requires { ⌜ col < 8 ⌝ }
-    ensures { λ r. ⌜ (r ≡ pairOf word col) × (r < 4) ⌝ }
+    ensures { λ r. ⌜ (r ≡ twoBits word col) × (r < 4) ⌝ }
 {
     let w = word as u32;
     (w >> (7 - col)) % 2 + (w >> (15 - col)) % 2 * 2
@@ -80,8 +81,8 @@ fn turned(flip: bool) -> [u32; 8]
 
 // Eight pixels of four colours.
 pub fn of_two(w0: u16, flip: bool, head: u32, colors: &[u32]) -> [u32; 8]
-    requires { ⌜ (length (now colors) ≡ 4) × (head < 134742016) ⌝ }
-    ensures { λ r. ⌜ r ≡ tab 8 (λ k. shade (now (colors .entry)) head (pairOf w0 (mirrored k 8 flip))) ⌝ }
+    requires { ⌜ (length (now colors) ≡ 4) × (head < headEnd) ⌝ }
+    ensures { λ r. ⌜ r ≡ tab 8 (λ k. shade (now (colors .entry)) head (twoBits w0 (mirrored k 8 flip))) ⌝ }
 {
     let cols = turned(flip);
     let mut out = [0; 8];
@@ -93,7 +94,7 @@ pub fn of_two(w0: u16, flip: bool, head: u32, colors: &[u32]) -> [u32; 8]
 
 // Of 16.
 pub fn of_four(w0: u16, w1: u16, flip: bool, head: u32, colors: &[u32]) -> [u32; 8]
-    requires { ⌜ (length (now colors) ≡ 16) × (head < 134742016) ⌝ }
+    requires { ⌜ (length (now colors) ≡ 16) × (head < headEnd) ⌝ }
     ensures { λ r. ⌜ r ≡ tab 8 (λ k. shade (now (colors .entry)) head (fourOf w0 w1 (mirrored k 8 flip))) ⌝ }
 {
     let cols = turned(flip);
@@ -105,8 +106,16 @@ pub fn of_four(w0: u16, w1: u16, flip: bool, head: u32, colors: &[u32]) -> [u32;
 }
 
 // Of 256.
-pub fn of_eight(w0: u16, w1: u16, w2: u16, w3: u16, flip: bool, head: u32, colors: &[u32]) -> [u32; 8]
-    requires { ⌜ (length (now colors) ≡ 256) × (head < 134742016) ⌝ }
+pub fn of_eight(
+    w0: u16,
+    w1: u16,
+    w2: u16,
+    w3: u16,
+    flip: bool,
+    head: u32,
+    colors: &[u32],
+) -> [u32; 8]
+    requires { ⌜ (length (now colors) ≡ 256) × (head < headEnd) ⌝ }
     ensures { λ r. ⌜ r ≡ tab 8 (λ k. shade (now (colors .entry)) head (eightOf w0 w1 w2 w3 (mirrored k 8 flip))) ⌝ }
 {
     let cols = turned(flip);
@@ -119,7 +128,7 @@ pub fn of_eight(w0: u16, w1: u16, w2: u16, w3: u16, flip: bool, head: u32, color
 
 // The packed pixel of a colour index in direct colour.
 fn shaded_direct(palette: u8, head: u32, index: u32) -> u32
-    requires { ⌜ (index < 256) × (head < 134742016) ⌝ }
+    requires { ⌜ (index < 256) × (head < headEnd) ⌝ }
     ensures { λ r. ⌜ r ≡ shadeDirect palette head index ⌝ }
 {
     pick(
@@ -131,7 +140,7 @@ fn shaded_direct(palette: u8, head: u32, index: u32) -> u32
 
 // Of direct colour.
 pub fn of_direct(w0: u16, w1: u16, w2: u16, w3: u16, flip: bool, head: u32, palette: u8) -> [u32; 8]
-    requires { ⌜ head < 134742016 ⌝ }
+    requires { ⌜ head < headEnd ⌝ }
     ensures { λ r. ⌜ r ≡ tab 8 (λ k. shadeDirect palette head (eightOf w0 w1 w2 w3 (mirrored k 8 flip))) ⌝ }
 {
     let cols = turned(flip);

@@ -15,7 +15,7 @@ use Rattle.line.specs.Pixels.{none}
 use Rattle.tiles.specs.declared.BitDepth.the-variants.{Four}
 use Rattle.tiles_row.specs.Rows.{rowIndex}
 use Rattle.sprite_tile.specs.declared.PlacedRow.{PlacedRow}
-use Rattle.sprite_tile.specs.Tile.{coloursOf, pixelOf}
+use Rattle.sprite_tile.specs.Tile.{spriteColours, spritePixelOf}
 use Rattle.sprite_fetch.specs.Walk.{blankRow, offsetIn, drawnTo, drawnAll, drawnLine}
 
 -- below k + 1 and not k: below k
@@ -49,7 +49,7 @@ module _ (v g : List ℕ) (s : PlacedRow) where
 
     -- and where it is opaque
     set-at : (x : ℕ) → (rowIndex v Four (s .tile) k ≡ 0 → ⊥) → offsetIn s x ≡ k →
-        pixelOf (coloursOf g (s .tile .palette)) (s .tile .palette) (s .tile .z) (rowIndex v Four (s .tile) k) ≡ after held (k + 1) x
+        spritePixelOf (spriteColours g (s .tile .palette)) (s .tile .palette) (s .tile .z) (rowIndex v Four (s .tile) k) ≡ after held (k + 1) x
     unfolding drawnTo
     set-at x z e = rw (e, lt-ltb k (k + 1) (omega arith), ne-eqb (rowIndex v Four (s .tile) k) 0 z)
 
@@ -78,7 +78,7 @@ module _ (v g : List ℕ) (s : PlacedRow) where
 
       -- an opaque one in it
       pub drawn : (s .«tile_x» + k) % 512 < 256 → (rowIndex v Four (s .tile) k ≡ 0 → ⊥) →
-          set (tab 256 (after held k)) ((s .«tile_x» + k) % 512) (pixelOf (coloursOf g (s .tile .palette)) (s .tile .palette) (s .tile .z) (rowIndex v Four (s .tile) k))
+          set (tab 256 (after held k)) ((s .«tile_x» + k) % 512) (spritePixelOf (spriteColours g (s .tile .palette)) (s .tile .palette) (s .tile .z) (rowIndex v Four (s .tile) k))
           ≡ tab 256 (after held (k + 1))
       drawn b z =
           let j = (s .«tile_x» + k) % 512 in

@@ -22,7 +22,7 @@ use Rattle.sprite_row.specs.SpriteRow.{x9, sizeIn, tileAt, counts}
 use Rattle.line.specs.declared.Candidate.{Candidate}
 use Rattle.line.specs.Pixels.{none}
 use Rattle.sprite_tile.specs.declared.View.{View}
-use Rattle.sprite_tile.specs.Tile.{lineIn, indexAt, pixelIn}
+use Rattle.sprite_tile.specs.Tile.{lineIn, spriteIndexAt, pixelIn}
 use Rattle.sprite_tile.specs.Placed.{placedOf}
 use Rattle.sprite_tile.proofs.Laws.{placed-index}
 use Rattle.sprite_fetch.specs.declared.Fetched.{Fetched}
@@ -129,7 +129,7 @@ module _ (v g : List ℕ) (view : View) (byte : view .objsel < 256) (x : ℕ) (h
             let line = lineIn view s width in
             let i =
             placed-index width t (across s x % 8) (fair .whole) b (omega arith) v s line
-            ∙ (λ j. indexAt v s (mirrored (p j) width (s .«flip_x»)) line) in
+            ∙ (λ j. spriteIndexAt v s (mirrored (p j) width (s .«flip_x»)) line) in
             rw (k, lt-ltb (across s x % 8) 8 (omega arith), i)
         by-cases false e =
             let b : 8 ≤ (across s x + 512 - t * 8) % 512 = beyond t (across s x) low (omega arith) (eqb-false t (across s x / 8) e) in

@@ -15,7 +15,7 @@ use Rattle.tiles.specs.declared.BitDepth.the-variants.{Four}
 use Rattle.tiles_row.specs.Rows.{rowIndex}
 use Rattle.sprite_tile.specs.declared.View.{View}
 use Rattle.sprite_tile.specs.declared.PlacedRow.{PlacedRow}
-use Rattle.sprite_tile.specs.Tile.{lineIn, coloursOf, pixelOf}
+use Rattle.sprite_tile.specs.Tile.{lineIn, spriteColours, spritePixelOf}
 use Rattle.sprite_tile.specs.Placed.{PlacedSound, placedOf}
 use Rattle.choice.specs.declared.VisibleSprite.{VisibleSprite}
 use Rattle.choice.specs.Choice.{blankPlace}
@@ -60,7 +60,7 @@ module _ (v g : List ℕ) where
   unfoldable pub drawnTo : PlacedRow → ℕ → ℕ → Candidate → Candidate
   drawnTo s k x h =
       cond (coversTo s k x)
-      (pixelOf (coloursOf g (s .tile .palette)) (s .tile .palette) (s .tile .z) (rowIndex v Four (s .tile) (offsetIn s x)))
+      (spritePixelOf (spriteColours g (s .tile .palette)) (s .tile .palette) (s .tile .z) (rowIndex v Four (s .tile) (offsetIn s x)))
       h
 
   -- after tiles are drawn, one over the other

@@ -9,7 +9,7 @@ use lib.ListN.{length, length-take, length-drop}
 use Rattle.tiles.specs.declared.BitDepth.the-variants.{Four}
 use Rattle.tiles.specs.Tiles.{indexOf, mirrored}
 use Rattle.oam.specs.declared.Sprite.{Sprite}
-use Rattle.sprite_tile.specs.Tile.{doubled, flippedIn, tileWord, indexAt, coloursOf}
+use Rattle.sprite_tile.specs.Tile.{doubled, flippedIn, tileWord, spriteIndexAt, spriteColours}
 use Rattle.tiles_row.specs.Rows.{rowIndex}
 use Rattle.sprite_tile.specs.Placed.{placedOf}
 
@@ -38,7 +38,7 @@ can-step true field true w n h e o f = even-flipped w n h e
 can-step true field false w n h e o f = absurd (false≢true f)
 can-step false field flip w n h e o f = absurd (false≢true o)
 
-pub colours-length : (g : List ℕ) (n : ℕ) → length g ≡ 256 → n < 8 → length (coloursOf g n) ≡ 16
+pub colours-length : (g : List ℕ) (n : ℕ) → length g ≡ 256 → n < 8 → length (spriteColours g n) ≡ 16
 colours-length g n e h = simp (length-take, length-drop) (omega arith)
 
 -- place t * 8 + k of a width, mirrored: its tile, and its place in the tile
@@ -53,7 +53,7 @@ module _ (w t k : ℕ) (whole : w % 8 ≡ 0) (in-width : t < w / 8) (h : k < 8) 
 
   -- so pixel k of tile t is what the sprite has there
   pub placed-index : (v : List ℕ) (s : Sprite) (line : ℕ) →
-      rowIndex v Four (placedOf s w line t .tile) k ≡ indexAt v s (mirrored (t * 8 + k) w (s .«flip_x»)) line
+      rowIndex v Four (placedOf s w line t .tile) k ≡ spriteIndexAt v s (mirrored (t * 8 + k) w (s .«flip_x»)) line
   unfolding placedOf
   placed-index v s line =
       sym (λ i. indexOf v (tileWord s (mirrored-tile (s .«flip_x») i) (line / 8)) (mirrored-place (s .«flip_x») i) (line % 8) 2)

@@ -16,13 +16,13 @@ ghost use mathlib.Core.Bool.{true};
 ghost use Prim.Native.Nat.{_*_, _/_, _<_, _≤_};
 ghost use lib.ListN.{length};
 ghost use Rattle.oam.specs.Sprites.{Sized};
-ghost use Rattle.sprite_tile.specs.Tile.{doubled, flippedIn, moved, lineIn, tileWord, coloursOf, pixelOf};
+ghost use Rattle.sprite_tile.specs.Tile.{doubled, flippedIn, moved, lineIn, tileWord, spriteColours, spritePixelOf};
 ghost use Rattle.sprite_tile.specs.Placed.{PlacedSound, placedOf};
 
 // Where a sprite's colours begin in colour memory, and how many each of its palettes has.
-const OBJ_COLORS: usize = 128;
+pub const OBJ_COLORS: usize = 128;
 
-const PALETTE_COLORS: usize = 16;
+pub const PALETTE_COLORS: usize = 16;
 
 // Under interlace a row shows every other line.
 fn double(line: usize, obj_interlace: bool) -> usize
@@ -98,7 +98,7 @@ pub fn placed(s: Sprite, size: SpriteSize, line: usize, t: usize) -> PlacedRow
 // A palette's colours, a part of colour memory.
 pub fn palette<'a>(cgram: &'a [u16], n: u8) -> &'a [u16]
     requires { ⌜ (length (now cgram) ≡ 256) × (n < 8) ⌝ }
-    ensures { λ r. ⌜ now r ≡ coloursOf (now (cgram .entry)) n ⌝ }
+    ensures { λ r. ⌜ now r ≡ spriteColours (now (cgram .entry)) n ⌝ }
 {
     let start = OBJ_COLORS + PALETTE_COLORS * n as usize;
     let end = start + PALETTE_COLORS;
@@ -109,7 +109,7 @@ pub fn palette<'a>(cgram: &'a [u16], n: u8) -> &'a [u16]
 // do color math only with palettes 4 to 7.
 pub fn pixel(colors: &[u16], palette: u8, z: Priority, index: u8) -> Candidate
     requires { ⌜ (length (now colors) ≡ 16) × (index < 16) ⌝ }
-    ensures { λ r. ⌜ r ≡ pixelOf (now (colors .entry)) palette z index ⌝ }
+    ensures { λ r. ⌜ r ≡ spritePixelOf (now (colors .entry)) palette z index ⌝ }
 {
     let at = index as usize;
     let color = colors[at];

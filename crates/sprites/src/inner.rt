@@ -10,6 +10,7 @@ use refusal::Verdict;
 use registers::PPURegisters;
 use registers::constants::COLOUR_WORDS;
 use registers::constants::LARGEST_COUNTER;
+use registers::constants::OBJ_LAYER;
 use registers::constants::SCREEN_HEIGHT;
 use registers::inner::bit;
 use sprite_fetch::Fetched;
@@ -27,9 +28,6 @@ ghost use Rattle.laying.specs.Laying.{candidatesOf, layLines};
 ghost use Rattle.sprites.specs.Sprites.{Sound, rowTests, countTests, drawTests, viewOf, chosenSprites, spritePixel, shownOf, emptyLine};
 ghost use Rattle.sprite_fetch.specs.Fetch.{fetched};
 ghost use Rattle.sprite_fetch.specs.Walk.{fetchedList, AllSound};
-
-// The sprites' bit of tm, ts, tmw and tsw.
-const OBJ: usize = 4;
 
 // The first tests of a row: its number and the lengths of the three memories.
 pub fn row_tested(y: usize, words: usize, colours: usize, bytes: usize) -> Verdict
@@ -128,10 +126,10 @@ fn shown(r: PPURegisters) -> Shown
 {
     let window = windows::inner::obj_window(r);
     Shown {
-        to_main: bit(r.tm, OBJ),
-        to_sub: bit(r.ts, OBJ),
-        win_main: bit(r.tmw, OBJ),
-        win_sub: bit(r.tsw, OBJ),
+        to_main: bit(r.tm, OBJ_LAYER),
+        to_sub: bit(r.ts, OBJ_LAYER),
+        win_main: bit(r.tmw, OBJ_LAYER),
+        win_sub: bit(r.tsw, OBJ_LAYER),
         window,
     }
 }

@@ -2,7 +2,7 @@ use Rattle.bg_row.proofs.Decode.{cell-of}
 use Rattle.bg_row.specs.Cells.{cellAt}
 use Rattle.bg_tile.proofs.Laws.{palette-length}
 use Rattle.bg_tile.specs.Characters.{characterRowAt, cellIn}
-use Rattle.bg_tile.specs.Tile.{paletteOf}
+use Rattle.bg_tile.specs.Tile.{bgColours}
 use Rattle.lists.specs.Filling.{Front, front-none, front-more, front-at, front-all}
 use denote.Ref.{now}
 use native.Mathlib.Nat.{mod-lt, add-zero}
@@ -69,7 +69,7 @@ loop2-again c =
     let k = l .k in
     let h = i .loop2-test .taken in
     let ch = t .character-row .ensures .0 ∙ (λ n. characterRowAt v (a .p) ((a .p .«scroll_x» / 8 * 8 + j * 8) % w .extent .ensures .0 n) (a .py)) in
-    let colours = q .palette .ensures ∙ (λ n. paletteOf g (a .p) (ch n .palette)) in
+    let colours = q .palette .ensures ∙ (λ n. bgColours g (a .p) (ch n .palette)) in
     let is =
     c .cell .ensures
     ∙ ((λ n. cellIn v (colours n) (a .p) (d .is-direct .ensures n) (ch n) k) ∙ cell-of v g (a .p) (a .direct) (a .py) j k h) in

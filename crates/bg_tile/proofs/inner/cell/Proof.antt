@@ -1,7 +1,7 @@
 use denote.Ref.{now}
 use Rattle.bg_tile.proofs.Laws.{colours-power}
 use Rattle.bg_tile.specs.Characters.{cellIn}
-use Rattle.bg_tile.specs.Tile.{colourIn, pixelOf}
+use Rattle.bg_tile.specs.Tile.{colourIn, bgPixelOf}
 use mathlib.Core.Path.{_∙_}
 use borrow.Author.Needs.{needs}
 use Rattle.bg_tile.proofs.inner.cell.Statement.{statement}
@@ -18,8 +18,8 @@ returns c =
     let i = c .before in
     let a = i .before .before .before .before .args in
     let index = i .index .ensures .0 in
-    (λ j. pixelOf (i .index .result) (c .color .ensures j) (a .t .z) (a .p))
-    ∙ (λ j. pixelOf (index j) (colourIn (now (a .colors)) (a .direct) (a .t .palette) (index j)) (a .t .z) (a .p))
+    (λ j. bgPixelOf (i .index .result) (c .color .ensures j) (a .t .z) (a .p))
+    ∙ (λ j. bgPixelOf (index j) (colourIn (now (a .colors)) (a .direct) (a .t .palette) (index j)) (a .t .z) (a .p))
 
 pub cell-spec : {M : Type 1} → statement M
 cell-spec = tie.close (tie.spec (λ c κs. search needs) color-requires returns)

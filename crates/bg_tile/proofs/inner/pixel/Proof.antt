@@ -1,6 +1,6 @@
 use Rattle.bg_tile.proofs.Laws.{palette-length, cell-is-pixel}
 use Rattle.bg_tile.specs.Characters.{cellIn}
-use Rattle.bg_tile.specs.Tile.{paletteOf, pixelAt}
+use Rattle.bg_tile.specs.Tile.{bgColours, pixelAt}
 use denote.Ref.{now}
 use mathlib.Core.Path.{_≡_, ap, _∙_}
 use Prim.Native.Nat.{ℕ, _+_, _*_, _/_, _%_}
@@ -29,7 +29,7 @@ returns c =
     let n = a .px / 8 * 8 in
     let k = a .px % 8 in
     let ch = t .character-row .ensures .0 in
-    let colours = q .palette .ensures ∙ (λ j. paletteOf g (a .p) (ch j .palette)) in
+    let colours = q .palette .ensures ∙ (λ j. bgColours g (a .p) (ch j .palette)) in
     let whole : n + k ≡ a .px = omega arith in
     c .cell .ensures
     ∙ ((λ i. cellIn v (colours i) (a .p) (d .is-direct .ensures i) (ch i) k)

@@ -9,7 +9,7 @@ use lib.ListN.{getD}
 use Rattle.lists.specs.Tab.{getD-tab}
 use Rattle.lists.specs.Filling.{Front, front-none, front-more, front-at, front-all}
 use Rattle.tiles_row.specs.declared.TileRow.{TileRow}
-use Rattle.bg_tile.specs.Tile.{paletteOf, isEight}
+use Rattle.bg_tile.specs.Tile.{bgColours, isEight}
 use Rattle.bg_tile.specs.Characters.{characterRowAt, cellIn}
 use Rattle.bg_row.specs.Cells.{cellAt}
 use Rattle.bg_row.proofs.Decode.{cell-of}
@@ -64,7 +64,7 @@ loop2-again c =
     let k = l .k in
     let h = c .loop2-test .taken in
     let direct = isEight (p .bpp) && a .direct in
-    let shown : TileRow → ℕ → ℕ = λ s n. packedIf (cellIn v (paletteOf g p (s .palette)) p direct s n) in
+    let shown : TileRow → ℕ → ℕ = λ s n. packedIf (cellIn v (bgColours g p (s .palette)) p direct s n) in
     let ch = t .character-row .ensures .0 ∙ (λ n. characterRowAt v p ((p .«scroll_x» / 8 * 8 + j * 8) % w .extent .ensures .0 n) (a .py)) in
     let is =
     (λ n. getD (q .eight .ensures n) k 0)

@@ -4,8 +4,8 @@ use mathlib.Core.Path.{_≡_, sym, ap, _∙_}
 use mathlib.Core.Bool.{_&&_}
 use lib.ListN.{length}
 use Rattle.lists.specs.Tab.{tab-ext}
-use Rattle.tiles.specs.Tiles.{pairOf, indexOf, pairsOf, mirrored}
-use Rattle.bg_tile.specs.Tile.{coloursOf, paletteOf, isEight}
+use Rattle.tiles.specs.Tiles.{twoBits, indexOf, pairsOf, mirrored}
+use Rattle.bg_tile.specs.Tile.{colourCount, bgColours, isEight}
 use Rattle.bg_tile.proofs.Laws.{palette-length}
 use Rattle.packed_tile.specs.Shades.{fourOf, eightOf, shade, shadeDirect}
 use Rattle.packed_tile.proofs.Indexes.{two-is, four-is, eight-is}
@@ -18,7 +18,7 @@ abbrev start : tie.After-plane-word → tie.Start
 start w = w .before .before .before .before .before .before .before .before
 
 -- how many colours the tile has
-long : (w : tie.After-plane-word) → length (now (w .before .before .palette .result)) ≡ coloursOf (start w .args .p .bpp)
+long : (w : tie.After-plane-word) → length (now (w .before .before .palette .result)) ≡ colourCount (start w .args .p .bpp)
 long w =
     let s = start w in
     (λ i. length (w .before .before .palette .ensures i))
@@ -27,17 +27,17 @@ long w =
 of-two-requires : tie.Need-of-two-requires
 of-two-requires c κs =
     let w = c .before .before in
-    (long w ∙ ap coloursOf (c .enum-told .given .1), w .before .before .before .head .ensures .1)
+    (long w ∙ ap colourCount (c .enum-told .given .1), w .before .before .before .head .ensures .1)
 
 of-four-requires : tie.Need-of-four-requires
 of-four-requires c κs =
     let w = c .before .before .before in
-    (long w ∙ ap coloursOf (c .before .enum-told2 .given .1), w .before .before .before .head .ensures .1)
+    (long w ∙ ap colourCount (c .before .enum-told2 .given .1), w .before .before .before .head .ensures .1)
 
 of-eight-requires : tie.Need-of-eight-requires
 of-eight-requires c κs =
     let w = c .before .before .before .before .before .before in
-    (long w ∙ ap coloursOf (c .before .before .before .before .enum-told3 .given .1), w .before .before .before .head .ensures .1)
+    (long w ∙ ap colourCount (c .before .before .before .before .enum-told3 .given .1), w .before .before .before .head .ensures .1)
 
 returns : tie.Need-returns
 returns c =
@@ -45,7 +45,7 @@ returns c =
     let a = start w .args in
     let v = now (a .vram) in
     let t = a .t in
-    let colours = paletteOf (now (a .g)) (a .p) (t .palette) in
+    let colours = bgColours (now (a .g)) (a .p) (t .palette) in
     let head = w .before .before .before .head .result in
     let five = c .before .before in
     let four = five .before in
@@ -64,7 +64,7 @@ returns-4 c =
     let a = start w .args in
     let v = now (a .vram) in
     let t = a .t in
-    let colours = paletteOf (now (a .g)) (a .p) (t .palette) in
+    let colours = bgColours (now (a .g)) (a .p) (t .palette) in
     let head = w .before .before .before .head .result in
     let five = c .before .before in
     let four = five .before in
@@ -83,13 +83,13 @@ returns-2 c =
     let a = start w .args in
     let v = now (a .vram) in
     let t = a .t in
-    let colours = paletteOf (now (a .g)) (a .p) (t .palette) in
+    let colours = bgColours (now (a .g)) (a .p) (t .palette) in
     let head = w .before .before .before .head .result in
     let e = c .before .enum-told .given .1 in
     c .of-two .ensures
     ∙ tab-ext 8 _ _
     (λ k h. let x = mirrored k 8 (t .«flip_x») in
-    (λ i. shade (w .before .before .palette .ensures i) head (pairOf (w .plane-word .ensures i) x))
+    (λ i. shade (w .before .before .palette .ensures i) head (twoBits (w .plane-word .ensures i) x))
     ∙ shade-is v colours (a .p) t k (start w .pre .0 .1) (w .before .before .before .before .bg-index .ensures) (w .before .before .before .head .ensures .0)
     (two-is v (t .base) x (t .row) ∙ (λ i. indexOf v (t .base) x (t .row) (pairsOf (sym e i)))) (λ i. isEight (e i) && a .direct))
 
@@ -99,7 +99,7 @@ returns-3 c =
     let a = start w .args in
     let v = now (a .vram) in
     let t = a .t in
-    let colours = paletteOf (now (a .g)) (a .p) (t .palette) in
+    let colours = bgColours (now (a .g)) (a .p) (t .palette) in
     let head = w .before .before .before .head .result in
     let two = c .before in
     let e = two .before .enum-told2 .given .1 in

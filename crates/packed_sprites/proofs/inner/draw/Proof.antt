@@ -10,7 +10,7 @@ use Rattle.line.specs.declared.Candidate.{Candidate}
 use Rattle.line.specs.Pixels.{none}
 use Rattle.packed.specs.Packed.{packedIf}
 use Rattle.sprite_tile.specs.declared.PlacedRow.{PlacedRow}
-use Rattle.sprite_tile.specs.Tile.{coloursOf, pixelOf}
+use Rattle.sprite_tile.specs.Tile.{spriteColours, spritePixelOf}
 use Rattle.tiles.specs.declared.BitDepth.the-variants.{Four}
 use Rattle.tiles_row.specs.Rows.{rowIndex}
 use Rattle.sprite_tile.specs.Placed.{PlacedSound}
@@ -95,7 +95,7 @@ loop2-again c =
     let s = row-of o in
     let k = l .k in
     let h = c .before .loop2-test .taken in
-    let pixel : ℕ → ℕ = λ n. packedIf (pixelOf (coloursOf g (s .tile .palette)) (s .tile .palette) (s .tile .z) (rowIndex v Four (s .tile) n)) in
+    let pixel : ℕ → ℕ = λ n. packedIf (spritePixelOf (spriteColours g (s .tile .palette)) (s .tile .palette) (s .tile .z) (rowIndex v Four (s .tile) n)) in
     let is = (λ i. getD (q .pixels .ensures i) k 0) ∙ getD-tab pixel 8 k 0 h in
     let more = shows-more v g s (held o) (is-sound o .nine) k h (e .if1 .left) (l .inv .0) is in
     (subst (λ (n : ℕ). Shows (after v g s (held o) (k + 1)) (set (l .line) ((s .«tile_x» + 8) % 512 + k) n)) (sym (c .over .ensures)) more, omega (arith, h))

@@ -4,7 +4,7 @@ use mathlib.Core.Path.{_∙_}
 use lib.ListN.{length}
 use Rattle.lists.specs.Tab.{tab-ext}
 use Rattle.tiles.specs.Tiles.{mirrored}
-use Rattle.sprite_tile.specs.Tile.{coloursOf}
+use Rattle.sprite_tile.specs.Tile.{spriteColours}
 use Rattle.sprite_tile.proofs.Laws.{colours-length}
 use Rattle.packed_tile.specs.Shades.{fourOf, shade}
 use Rattle.packed_tile.proofs.Indexes.{four-is}
@@ -34,7 +34,7 @@ returns c =
     ∙ tab-ext 8 _ _
     (λ n h. let x = mirrored n 8 (t .«flip_x») in
     (λ i. shade (k .colors .ensures i) (k .before .head .result) (fourOf (one .plane-word .ensures i) (two .plane-word2 .ensures i) x))
-    ∙ sprite-shade (coloursOf (now (a .g)) (t .palette)) (t .palette) (t .z) (k .before .before .code .ensures .0) (k .before .head .ensures .0) (four-is v (t .base) x (t .row)))
+    ∙ sprite-shade (spriteColours (now (a .g)) (t .palette)) (t .palette) (t .z) (k .before .before .code .ensures .0) (k .before .head .ensures .0) (four-is v (t .base) x (t .row)))
 
 pub pixels-spec : {M : Type 1} → statement M
 pixels-spec =

@@ -8,7 +8,7 @@ use Rattle.lists.specs.Tab.{tab}
 use Rattle.lists.specs.Filling.{long-field}
 use Rattle.line.specs.declared.Candidate.{Candidate}
 use Rattle.line.specs.Pixels.{none}
-use Rattle.sprite_tile.specs.Tile.{pixelOf}
+use Rattle.sprite_tile.specs.Tile.{spritePixelOf}
 use Rattle.tiles.specs.declared.BitDepth.the-variants.{Four}
 use Rattle.tiles_row.specs.Rows.{rowIndex}
 use Rattle.sprite_tile.specs.Placed.{PlacedSound}
@@ -111,7 +111,7 @@ loop2-again-3 c =
     let g = now (a .cgram) in
     let s = row-of o in
     let j = (s .«tile_x» + l .k) % 512 in
-    let is = c .pixel .ensures ∙ (λ i. pixelOf (p .palette .ensures i) (s .tile .palette) (s .tile .z) (x .index .ensures .0 i)) in
+    let is = c .pixel .ensures ∙ (λ i. spritePixelOf (p .palette .ensures i) (s .tile .palette) (s .tile .z) (x .index .ensures .0 i)) in
     let opaque : rowIndex v Four (s .tile) (l .k) ≡ 0 → ⊥ = λ z. e .if2 .left (x .index .ensures .0 ∙ z) in
     let h = i2 .loop2-test .taken in
     ((λ i. set (l .inv .0 i) j (is i)) ∙ drawn v g s (held o) (l .k) (is-sound o .nine) h (x .before .if1 .left) opaque, omega (arith, h))

@@ -11,8 +11,8 @@ use Rattle.modes.specs.Modes.{paramsOf}
 use Rattle.modes.specs.Own.{own-number}
 use Rattle.line.specs.Pixels.{backgroundOf}
 use Rattle.bg_map.specs.declared.BgParams.{BgParams}
-use Rattle.packed_bg.proofs.inner.row.Statement.{statement}
-use Rattle.packed_bg.proofs.inner.row.Tie as tie
+use Rattle.packed_bg.proofs.inner.background_row.Statement.{statement}
+use Rattle.packed_bg.proofs.inner.background_row.Tie as tie
 
 -- what the columns show where a test holds
 abbrev shown : (c : tie.Start) → Bool → BgParams → ℕ → ℕ
@@ -56,5 +56,5 @@ returns-2 c =
     let p = c .before .before in
     start p .pre .0 ∙ ((λ i. tab 256 (shown (start p) (sym (c .if1 .left) i) (p .bg-params .result))) ∙ by-params p)
 
-pub row-spec : {M : Type 1} → statement M
-row-spec = tie.close (tie.spec (λ c κs. search needs) drawn-requires (λ c. search needs) returns returns-2)
+pub background-row-spec : {M : Type 1} → statement M
+background-row-spec = tie.close (tie.spec (λ c κs. search needs) drawn-requires (λ c. search needs) returns returns-2)

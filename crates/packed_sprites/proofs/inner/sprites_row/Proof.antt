@@ -15,8 +15,8 @@ use Rattle.sprite_fetch.specs.Fetch.{linePixel}
 use Rattle.sprite_fetch.specs.Walk.{drawnAll}
 use Rattle.sprite_fetch.proofs.Shows.{drawn-line}
 use Rattle.sprites.specs.Sprites.{viewOf, chosenSprites, spritePixel}
-use Rattle.packed_sprites.proofs.inner.row.Statement.{statement}
-use Rattle.packed_sprites.proofs.inner.row.Tie as tie
+use Rattle.packed_sprites.proofs.inner.sprites_row.Statement.{statement}
+use Rattle.packed_sprites.proofs.inner.sprites_row.Tie as tie
 
 -- objsel is a byte
 byte : (c : tie.Start) → c .args .r .objsel < 256
@@ -57,8 +57,8 @@ returns-2 c =
     let s = b .before .before .before .before .before in
     tab-same 256 {b = 0} refl ∙ ((λ i. tab 256 (shown s (sym (c .if1 .left) i))) ∙ by-bits b)
 
-pub row-spec : {M : Type 1} → statement M
-row-spec =
+pub sprites-row-spec : {M : Type 1} → statement M
+sprites-row-spec =
     tie.close
     (tie.spec
     (λ c κs. search needs)
