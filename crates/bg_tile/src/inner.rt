@@ -138,7 +138,7 @@ fn color(colors: &[u16], direct: bool, palette: u8, index: u8) -> u16
     colors[at]
 }
 
-// Pixel k of a character row whose tile has these colours.
+// Pixel k of a character's row whose tile has these colours.
 pub fn cell(
     vram: &[u16],
     colors: &[u16],

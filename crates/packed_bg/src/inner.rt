@@ -27,7 +27,7 @@ ghost use Rattle.bg_map.specs.Source.{extentOf};
 ghost use Rattle.tiles_row.specs.Rows.{TileRowSound};
 ghost use Rattle.bg_tile.specs.Tile.{bgColours, isEight};
 ghost use Rattle.bg_tile.specs.Characters.{cellIn};
-ghost use Rattle.bg_row.specs.Row.{Sound, bgPixel};
+ghost use Rattle.bg_row.specs.Row.{BgRowSound, bgPixel};
 ghost use Rattle.bg_row.specs.Cells.{cellAt};
 ghost use Rattle.modes.specs.Modes.{paramsOf};
 
@@ -144,7 +144,7 @@ fn columns(out: &mut [u32], cells: &[u32], fine: usize, block: usize)
 
 // Writes what the background has at the columns of row y.
 fn drawn(out: &mut [u32], vram: &[u16], g: &[u32], r: PPURegisters, p: BgParams, y: usize)
-    requires { ⌜ (length (now out) ≡ 256) × Sound (length (now g)) (p .layer) y ⌝ }
+    requires { ⌜ (length (now out) ≡ 256) × BgRowSound (length (now g)) (p .layer) y ⌝ }
     ensures { λ u. ⌜ now (out .exit) ≡ tab 256 (λ x. packedIf (bgPixel (now (vram .entry)) (now (g .entry)) r p y x)) ⌝ }
 {
     let py = source_line(r, p, y);
