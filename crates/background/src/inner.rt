@@ -14,7 +14,7 @@ ghost use Prim.Native.Nat.{_<_};
 ghost use lib.ListN.{length};
 ghost use Rattle.line.specs.Pixels.{backgroundOf};
 ghost use Rattle.laying.specs.Laying.{candidatesOf, layLines};
-ghost use Rattle.bg_row.specs.Row.{Sound, bgPixel};
+ghost use Rattle.bg_row.specs.Row.{BgRowSound, bgPixel};
 ghost use Rattle.background.specs.Background.{bgShownBy};
 
 // Where the background is shown.
@@ -43,7 +43,7 @@ pub fn candidates(
     x: usize,
     y: usize,
 ) -> Candidates
-    requires { ⌜ Sound (length (now cgram)) (p .layer) y × (x < 256) ⌝ }
+    requires { ⌜ BgRowSound (length (now cgram)) (p .layer) y × (x < 256) ⌝ }
     ensures { λ c. ⌜ c ≡ candidatesOf (bgShownBy r p) x (bgPixel (now (vram .entry)) (now (cgram .entry)) r p y x) ⌝ }
 {
     let px = source_column(r, p, x);
@@ -61,7 +61,7 @@ pub fn lay(
     p: BgParams,
     y: usize,
 ) -> Lines
-    requires { ⌜ Sound (length (now cgram)) (p .layer) y ⌝ }
+    requires { ⌜ BgRowSound (length (now cgram)) (p .layer) y ⌝ }
     ensures { λ o. ⌜ o ≡ layLines (bgShownBy r p) (bgPixel (now (vram .entry)) (now (cgram .entry)) r p y) lines ⌝ }
 {
     let c = bg_row::inner::row(vram, cgram, r, p, y);

@@ -18,7 +18,7 @@ ghost use mathlib.Core.Bool.{true, _&&_};
 ghost use Rattle.refusal.specs.Verdicts.{verdictMeans, Passed};
 ghost use Rattle.row_tests.specs.Tests.{bgTests};
 ghost use Rattle.laying.specs.Answers.{candidatesMean, linesMean};
-ghost use Rattle.bg_row.specs.Row.{Sound};
+ghost use Rattle.bg_row.specs.Row.{BgRowSound};
 ghost use Rattle.background.specs.Background.{isBackground, bgCandidatesAnswer, bgLaidOutcome};
 
 // The tests of both calls; `column` says that the column is in its range.
@@ -30,7 +30,7 @@ fn tested(
     column: bool,
     layer: Layer,
 ) -> Verdict
-    ensures { λ r. ⌜ (verdictMeans r ≡ bgTests y words colours counter (column && isBackground layer)) × (Passed r → Sound colours layer y × (column ≡ true)) ⌝ }
+    ensures { λ r. ⌜ (verdictMeans r ≡ bgTests y words colours counter (column && isBackground layer)) × (Passed r → BgRowSound colours layer y × (column ≡ true)) ⌝ }
 {
     bg_tested(
         y,

@@ -3,7 +3,7 @@ use Prim.Native.Nat.{ℕ, _+_, _*_, _/_, _%_}
 use mathlib.Core.Bool.{Bool, true, false}
 use mathlib.Core.List.{List}
 use Rattle.registers.specs.Bits.{bitOf}
-use Rattle.tiles.specs.Tiles.{wordAt}
+use Rattle.tiles.specs.Tiles.{vramWord}
 use Rattle.bg_map.specs.declared.BgParams.{BgParams}
 use Rattle.bg_map.specs.declared.MapEntry.{MapEntry}
 use Rattle.bg_map.specs.Source.{sideOf}
@@ -33,4 +33,4 @@ entryOf w = record {
 -- the entry of the tile that holds pixel (px, py) of the map
 unfoldable pub entryAt : List ℕ → BgParams → ℕ → ℕ → MapEntry
 entryAt v p px py =
-    entryOf (wordAt v (mapWord (p .«tilemap_base») (p .w64) (px / sideOf (p .tile16)) (py / sideOf (p .tile16))))
+    entryOf (vramWord v (mapWord (p .«tilemap_base») (p .w64) (px / sideOf (p .tile16)) (py / sideOf (p .tile16))))

@@ -5,7 +5,7 @@ use mathlib.Core.Path.{_≡_, ap}
 use mathlib.Core.Bool.{Bool, true, false}
 use mathlib.Core.List.{List}
 use native.Mathlib.Omega.{arith}
-use Rattle.tiles.specs.Tiles.{wordAt}
+use Rattle.tiles.specs.Tiles.{vramWord}
 use Rattle.bg_map.specs.declared.BgParams.{BgParams}
 use Rattle.bg_map.specs.declared.MapEntry.{MapEntry}
 use Rattle.bg_map.specs.Source.{sideOf}
@@ -20,7 +20,7 @@ mapRow p py = rowStart (p .«tilemap_base») (p .w64) (py / sideOf (p .tile16))
 
 -- the entry of the tile that holds column px, where the row starts at `start`
 unfoldable pub entryIn : List ℕ → ℕ → Bool → ℕ → MapEntry
-entryIn v start tile16 px = entryOf (wordAt v (start + px / sideOf tile16 / 32 * 1024 + px / sideOf tile16 % 32))
+entryIn v start tile16 px = entryOf (vramWord v (start + px / sideOf tile16 / 32 * 1024 + px / sideOf tile16 % 32))
 
 -- from there on it is the map's
 by-row : (base : ℕ) (wide : Bool) (col row : ℕ) → rowStart base wide row + col / 32 * 1024 + col % 32 ≡ mapWord base wide col row
@@ -30,5 +30,5 @@ by-row base false col row = omega arith
 pub entry-in-row : (v : List ℕ) (p : BgParams) (px py : ℕ) → entryIn v (mapRow p py) (p .tile16) px ≡ entryAt v p px py
 unfolding mapRow entryIn entryAt
 entry-in-row v p px py =
-    ap (λ (a : ℕ). entryOf (wordAt v a))
+    ap (λ (a : ℕ). entryOf (vramWord v a))
     (by-row (p .«tilemap_base») (p .w64) (px / sideOf (p .tile16)) (py / sideOf (p .tile16)))

@@ -9,8 +9,8 @@ use Rattle.registers.specs.Screen.{directColour}
 use Rattle.mosaic.specs.Mosaic.{blockIf}
 use Rattle.bg_map.specs.declared.BgParams.{BgParams}
 use Rattle.bg_map.specs.Source.{extentOf, sourceColumn, sourceLine}
-use Rattle.bg_tile.specs.Tile.{paletteOf, isEight, pixelAt}
-use Rattle.bg_tile.specs.Characters.{characterAt, cellIn}
+use Rattle.bg_tile.specs.Tile.{bgColours, isEight, pixelAt}
+use Rattle.bg_tile.specs.Characters.{characterRowAt, cellIn}
 use Rattle.bg_tile.proofs.Laws.{cell-is-pixel}
 use Rattle.bg_row.specs.Row.{bgPixel}
 use Rattle.bg_row.specs.Cells.{cellColumn, cellAt}
@@ -32,8 +32,8 @@ from-eight false false s j = omega arith
 module _ (v g : List ℕ) (p : BgParams) (direct : Bool) (py : ℕ) where
   -- cell k of character j
   pub cell-of : (j k : ℕ) → k < 8 →
-      cellIn v (paletteOf g p (characterAt v p (cellColumn p (j * 8)) py .palette)) p (isEight (p .bpp) && direct)
-      (characterAt v p (cellColumn p (j * 8)) py) k
+      cellIn v (bgColours g p (characterRowAt v p (cellColumn p (j * 8)) py .palette)) p (isEight (p .bpp) && direct)
+      (characterRowAt v p (cellColumn p (j * 8)) py) k
       ≡ cellAt v g p direct py (j * 8 + k)
   unfolding cellAt
   cell-of j k h =

@@ -16,7 +16,7 @@ unfoldable pub bgPixel : List ℕ → List ℕ → PPURegisters → BgParams →
 bgPixel v g r p y x = pixelAt v g p (directColour r) (sourceColumn r p x) (sourceLine r p y)
 
 -- what the tests leave for the work
-pub record Sound (colours : ℕ) (layer : Layer) (y : ℕ) : Type 0 where
+pub record BgRowSound (colours : ℕ) (layer : Layer) (y : ℕ) : Type 0 where
   pub whole : colours ≡ 256
   pub background : backgroundOf layer < 4
   pub row : y < 224

@@ -5,7 +5,7 @@ use bg_map::inner::extent;
 use bg_map::inner::map_row;
 use bg_map::inner::source_line;
 use bg_tile::inner::cell;
-use bg_tile::inner::character;
+use bg_tile::inner::character_row;
 use bg_tile::inner::is_direct;
 use bg_tile::inner::palette;
 use line::Candidate;
@@ -17,7 +17,7 @@ ghost use Rattle.lists.specs.Tab.{tab};
 ghost use Rattle.line.specs.Pixels.{backgroundOf};
 ghost use Rattle.laying.specs.Laying.{rowOf};
 ghost use Rattle.bg_map.specs.Source.{extentOf};
-ghost use Rattle.bg_row.specs.Row.{Sound, bgPixel};
+ghost use Rattle.bg_row.specs.Row.{BgRowSound, bgPixel};
 ghost use Rattle.bg_row.specs.Cells.{cellAt};
 
 // The cells of line py of the map: its pixels from the last multiple of 8 that the scroll has
@@ -34,7 +34,7 @@ fn cells(vram: &[u16], cgram: &[u16], p: BgParams, direct: bool, py: usize) -> [
     let none = Candidate::none();
     let mut out = [none; 264];
     for j in 0..33 {
-        let t = character(vram, p, map_row, (first + j * 8) % width, py);
+        let t = character_row(vram, p, map_row, (first + j * 8) % width, py);
         let colors = palette(cgram, p, t.palette);
         for k in 0..8 {
             out[j * 8 + k] = cell(vram, colors, p, straight, t, k);
@@ -94,7 +94,7 @@ fn columns(cells: [Candidate; 264], fine: usize, block: usize) -> [Candidate; 25
 
 // What the background has at the columns of row y.
 pub fn row(vram: &[u16], cgram: &[u16], r: PPURegisters, p: BgParams, y: usize) -> [Candidate; 256]
-    requires { ⌜ Sound (length (now cgram)) (p .layer) y ⌝ }
+    requires { ⌜ BgRowSound (length (now cgram)) (p .layer) y ⌝ }
     ensures { λ c. ⌜ c ≡ tab 256 (bgPixel (now (vram .entry)) (now (cgram .entry)) r p y) ⌝ }
 {
     let py = source_line(r, p, y);

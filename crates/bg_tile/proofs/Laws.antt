@@ -1,5 +1,5 @@
--- A tile's colours lie in colour memory, its characters in their range; and the eight pixels of a character row share their
--- map entry, so that one character row gives them all.
+-- A tile's colours lie in colour memory, its characters in their range; and the eight pixels of a character's row share their
+-- map entry, so that one row of a character gives them all.
 use Prim.Native.Nat.{ℕ, _+_, _*_, _/_, _%_, _^_, _<_, _≤_}
 use mathlib.Core.Path.{_≡_, refl, sym, ap, _∙_}
 use mathlib.Core.Bool.{Bool, true, false, _&&_}
@@ -10,14 +10,15 @@ use lib.Dec.{lit≤}
 use lib.ListN.{length, length-take, length-drop}
 use Rattle.tiles.specs.declared.BitDepth.{BitDepth}
 use Rattle.tiles.specs.declared.BitDepth.the-variants.{Two, Four, Eight}
-use Rattle.tiles.specs.Tiles.{wordAt, indexOf, pairsOf, tileWords, mirrored}
+use Rattle.tiles.specs.Tiles.{vramWord, indexOf, pairsOf, tileWords, mirrored}
 use Rattle.line.specs.Pixels.{backgroundOf}
 use Rattle.bg_map.specs.declared.BgParams.{BgParams}
 use Rattle.bg_map.specs.declared.MapEntry.{MapEntry}
 use Rattle.bg_map.specs.Source.{sideOf}
 use Rattle.bg_map.specs.Map.{mapWord, entryOf, entryAt}
-use Rattle.bg_tile.specs.Tile.{fineOf, indexAt, coloursOf, startOf, paletteOf, isEight, pixelUnder, pixelAt}
-use Rattle.bg_tile.specs.Characters.{characterUnder, characterAt, cellIndex, cellIn}
+use Rattle.bg_tile.specs.Tile.{fineOf, bgIndexAt, colourCount, startOf, bgColours, isEight, pixelUnder, pixelAt}
+use Rattle.tiles_row.specs.Rows.{rowIndex}
+use Rattle.bg_tile.specs.Characters.{characterRowUnder, characterRowAt, cellIn}
 
 pub character-small : (n words : ℕ) → words ≤ 32 → n % 1024 * words ≤ 1023 * 32
 character-small n words h = let k : n % 1024 ≤ 1023 = omega arith in mul-le-mul k h
@@ -27,19 +28,19 @@ words-small Two = lit≤ tt
 words-small Four = lit≤ tt
 words-small Eight = lit≤ tt
 
-pub colours-power : (d : BitDepth) → 4 ^ pairsOf d ≡ coloursOf d
+pub colours-power : (d : BitDepth) → 4 ^ pairsOf d ≡ colourCount d
 colours-power Two = refl
 colours-power Four = refl
 colours-power Eight = refl
 
-pub palette-fits : (d : BitDepth) (own : Bool) (b n : ℕ) → b < 4 → n < 8 → startOf d own b n + coloursOf d ≤ 256
+pub palette-fits : (d : BitDepth) (own : Bool) (b n : ℕ) → b < 4 → n < 8 → startOf d own b n + colourCount d ≤ 256
 palette-fits Two true b n h k = omega arith
 palette-fits Two false b n h k = omega arith
 palette-fits Four own b n h k = omega arith
 palette-fits Eight own b n h k = omega arith
 
 pub palette-length : (g : List ℕ) (p : BgParams) (n : ℕ) → length g ≡ 256 → backgroundOf (p .layer) < 4 → n < 8 →
-    length (paletteOf g p n) ≡ coloursOf (p .bpp)
+    length (bgColours g p n) ≡ colourCount (p .bpp)
 palette-length g p n e h k =
     simp (length-take, length-drop)
     (omega (arith, palette-fits (p .bpp) (p .«own_palettes») (backgroundOf (p .layer)) n h k))
@@ -67,11 +68,11 @@ module _ (px k : ℕ) (even : px % 8 ≡ 0) (h : k < 8) where
     unfolding entryAt
     same-entry =
         sym
-        (ap (λ (c : ℕ). entryOf (wordAt v (mapWord (p .«tilemap_base») (p .w64) c (py / sideOf (p .tile16)))))
+        (ap (λ (c : ℕ). entryOf (vramWord v (mapWord (p .«tilemap_base») (p .w64) c (py / sideOf (p .tile16)))))
         (same-tile (p .tile16)))
 
-    same-index : (e : MapEntry) → cellIndex v p (characterUnder p e px py) k ≡ indexAt v p e (px + k) py
-    unfolding indexAt
+    same-index : (e : MapEntry) → rowIndex v (p .bpp) (characterRowUnder p e px py) k ≡ bgIndexAt v p e (px + k) py
+    unfolding bgIndexAt
     same-index e =
         sym
         (λ i. indexOf v
@@ -82,11 +83,11 @@ module _ (px k : ℕ) (even : px % 8 ≡ 0) (h : k < 8) where
         (fineOf py (p .tile16) (e .«flip_y») % 8)
         (pairsOf (p .bpp)))
 
-    -- pixel k of the character row at px is the pixel at px + k
+    -- pixel k of the character's row at px is the pixel at px + k
     pub cell-is-pixel : (g : List ℕ) (direct : Bool) →
-        cellIn v (paletteOf g p (characterAt v p px py .palette)) p (isEight (p .bpp) && direct) (characterAt v p px py) k
+        cellIn v (bgColours g p (characterRowAt v p px py .palette)) p (isEight (p .bpp) && direct) (characterRowAt v p px py) k
         ≡ pixelAt v g p direct (px + k) py
-    unfolding cellIn characterAt pixelAt
+    unfolding cellIn characterRowAt pixelAt
     cell-is-pixel g direct =
         ap (pixelUnder g p direct (entryAt v p px py)) (same-index (entryAt v p px py))
-        ∙ (λ i. pixelUnder g p direct (same-entry i) (indexAt v p (same-entry i) (px + k) py))
+        ∙ (λ i. pixelUnder g p direct (same-entry i) (bgIndexAt v p (same-entry i) (px + k) py))

@@ -25,8 +25,8 @@ abbrev pub characterWord : ℕ → ℕ → ℕ → ℕ → ℕ → ℕ
 characterWord base tile fx fy words = base + (tile + fx / 8 + fy / 8 * 16) % 1024 * words
 
 -- the colour index of pixel (px, py) of the map, under its entry e
-unfoldable pub indexAt : List ℕ → BgParams → MapEntry → ℕ → ℕ → ℕ
-indexAt v p e px py =
+unfoldable pub bgIndexAt : List ℕ → BgParams → MapEntry → ℕ → ℕ → ℕ
+bgIndexAt v p e px py =
     indexOf v
     (characterWord (p .«tiledata_base») (e .tile) (fineOf px (p .tile16) (e .«flip_x»)) (fineOf py (p .tile16) (e .«flip_y»)) (tileWords (p .bpp)))
     (fineOf px (p .tile16) (e .«flip_x») % 8)
@@ -39,10 +39,10 @@ priorityOf p true = p .«z_high»
 priorityOf p false = p .«z_low»
 
 -- the tile's colours are a part of colour memory, 4, 16 or 256 words
-abbrev pub coloursOf : BitDepth → ℕ
-coloursOf Two = 4
-coloursOf Four = 16
-coloursOf Eight = 256
+abbrev pub colourCount : BitDepth → ℕ
+colourCount Two = 4
+colourCount Four = 16
+colourCount Eight = 256
 
 -- from 4 x palette (plus 32b in mode 0), 16 x palette, or 0
 abbrev pub startOf : BitDepth → Bool → ℕ → ℕ → ℕ
@@ -51,8 +51,8 @@ startOf Two false b n = n * 4
 startOf Four own b n = n * 16
 startOf Eight own b n = 0
 
-abbrev pub paletteOf : List ℕ → BgParams → ℕ → List ℕ
-paletteOf g p n = take (coloursOf (p .bpp)) (drop (startOf (p .bpp) (p .«own_palettes») (backgroundOf (p .layer)) n) g)
+abbrev pub bgColours : List ℕ → BgParams → ℕ → List ℕ
+bgColours g p n = take (colourCount (p .bpp)) (drop (startOf (p .bpp) (p .«own_palettes») (backgroundOf (p .layer)) n) g)
 
 abbrev pub isEight : BitDepth → Bool
 isEight Two = false
@@ -64,8 +64,8 @@ abbrev pub colourIn : List ℕ → Bool → ℕ → ℕ → ℕ
 colourIn colours direct n i = cond direct (directColour i n) (getD colours i 0)
 
 -- a pixel of index i, and whether it is opaque: index 0 is transparent
-abbrev pub pixelOf : ℕ → ℕ → Priority → BgParams → Candidate
-pixelOf i colour z p = record {
+abbrev pub bgPixelOf : ℕ → ℕ → Priority → BgParams → Candidate
+bgPixelOf i colour z p = record {
   opaque = not (eqb i 0);
   pixel = record { color = colour; z = z; layer = p .layer; «obj_math» = false };
 }
@@ -73,8 +73,8 @@ pixelOf i colour z p = record {
 -- the pixel under entry e, of index i: for 8bpp with cgwsel bit 0, in direct colour
 abbrev pub pixelUnder : List ℕ → BgParams → Bool → MapEntry → ℕ → Candidate
 pixelUnder g p direct e i =
-    pixelOf i (colourIn (paletteOf g p (e .palette)) (isEight (p .bpp) && direct) (e .palette) i) (priorityOf p (e .high)) p
+    bgPixelOf i (colourIn (bgColours g p (e .palette)) (isEight (p .bpp) && direct) (e .palette) i) (priorityOf p (e .high)) p
 
 -- pixel (px, py) of the map
 unfoldable pub pixelAt : List ℕ → List ℕ → BgParams → Bool → ℕ → ℕ → Candidate
-pixelAt v g p direct px py = pixelUnder g p direct (entryAt v p px py) (indexAt v p (entryAt v p px py) px py)
+pixelAt v g p direct px py = pixelUnder g p direct (entryAt v p px py) (bgIndexAt v p (entryAt v p px py) px py)

@@ -1,5 +1,4 @@
 // What the crates above ask of a background's tiles.
-use crate::Character;
 use bg_map::BgParams;
 use line::Candidate;
 use line::LinePixel;
@@ -7,6 +6,7 @@ use line::Priority;
 use line::inner::bg_index;
 use tiles::BitDepth;
 use tiles::inner::mirror;
+use tiles_row::TileRow;
 ghost use mathlib.Core.Path.{_≡_};
 ghost use mathlib.Core.Bool.{_&&_};
 ghost use Prim.Native.Nat.{_+_, _<_, _≤_};
@@ -14,8 +14,9 @@ ghost use lib.ListN.{length};
 ghost use Rattle.line.specs.Pixels.{backgroundOf};
 ghost use Rattle.bg_map.specs.Source.{extentOf};
 ghost use Rattle.bg_map.specs.Rows.{mapRow};
-ghost use Rattle.bg_tile.specs.Tile.{fineOf, characterWord, priorityOf, coloursOf, startOf, paletteOf, isEight, colourIn, pixelAt};
-ghost use Rattle.bg_tile.specs.Characters.{characterAt, cellIn};
+ghost use Rattle.bg_tile.specs.Tile.{fineOf, characterWord, priorityOf, colourCount, startOf, bgColours, isEight, colourIn, pixelAt};
+ghost use Rattle.tiles_row.specs.Rows.{TileRowSound};
+ghost use Rattle.bg_tile.specs.Characters.{characterRowAt, cellIn};
 
 // The place in its tile of a place of the map, along one axis.
 fn fine(at: usize, tile16: bool, flip: bool) -> usize
@@ -43,10 +44,10 @@ fn priority(p: BgParams, high: bool) -> Priority
     if high { p.z_high } else { p.z_low }
 }
 
-// The character row that holds pixel (px, py) of the map, in its row of tiles.
-pub fn character(vram: &[u16], p: BgParams, map_row: usize, px: usize, py: usize) -> Character
+// The row of a character that holds pixel (px, py) of the map, in its row of tiles.
+pub fn character_row(vram: &[u16], p: BgParams, map_row: usize, px: usize, py: usize) -> TileRow
     requires { ⌜ ((«map_row» ≡ mapRow p py) × («map_row» < 131072)) × (px < extentOf (p .w64) (p .tile16)) ⌝ }
-    ensures { λ r. ⌜ (r ≡ characterAt (now (vram .entry)) p px py) × ((r .row < 8) × (r .palette < 8)) ⌝ }
+    ensures { λ r. ⌜ (r ≡ characterRowAt (now (vram .entry)) p px py) × TileRowSound r ⌝ }
 {
     let entry = bg_map::inner::entry_in(vram, map_row, p.tile16, px);
     let fx = fine(px, p.tile16, entry.flip_x);
@@ -55,9 +56,9 @@ pub fn character(vram: &[u16], p: BgParams, map_row: usize, px: usize, py: usize
     let words = bpp.tile_words();
     let base = character_word(p.tiledata_base, entry.tile, fx, fy, words);
     let z = priority(p, entry.high);
-    Character {
+    TileRow {
         base,
-        row: fy % 8,
+        row: (fy % 8) as u8,
         flip_x: entry.flip_x,
         palette: entry.palette,
         z,
@@ -66,7 +67,7 @@ pub fn character(vram: &[u16], p: BgParams, map_row: usize, px: usize, py: usize
 
 // How many colours a tile has.
 pub fn colors(bpp: BitDepth) -> usize
-    ensures { λ r. ⌜ r ≡ coloursOf bpp ⌝ }
+    ensures { λ r. ⌜ r ≡ colourCount bpp ⌝ }
 {
     match bpp {
         BitDepth::Two => 4,
@@ -96,7 +97,7 @@ fn start_of(bpp: BitDepth, own: bool, bg: usize, n: u8) -> usize
 // Where a tile's colours begin; they end in colour memory.
 pub fn palette_start(p: BgParams, n: u8) -> usize
     requires { ⌜ (backgroundOf (p .layer) < 4) × (n < 8) ⌝ }
-    ensures { λ r. ⌜ (r ≡ startOf (p .bpp) (p .«own_palettes») (backgroundOf (p .layer)) n) × (r + coloursOf (p .bpp) ≤ 256) ⌝ }
+    ensures { λ r. ⌜ (r ≡ startOf (p .bpp) (p .«own_palettes») (backgroundOf (p .layer)) n) × (r + colourCount (p .bpp) ≤ 256) ⌝ }
 {
     let bpp = p.bpp;
     let layer = p.layer;
@@ -106,7 +107,7 @@ pub fn palette_start(p: BgParams, n: u8) -> usize
 // A tile's colours, a part of colour memory.
 pub fn palette<'a>(cgram: &'a [u16], p: BgParams, n: u8) -> &'a [u16]
     requires { ⌜ (length (now cgram) ≡ 256) × ((backgroundOf (p .layer) < 4) × (n < 8)) ⌝ }
-    ensures { λ r. ⌜ now r ≡ paletteOf (now (cgram .entry)) p n ⌝ }
+    ensures { λ r. ⌜ now r ≡ bgColours (now (cgram .entry)) p n ⌝ }
 {
     let bpp = p.bpp;
     let start = palette_start(p, n);
@@ -137,22 +138,22 @@ fn color(colors: &[u16], direct: bool, palette: u8, index: u8) -> u16
     colors[at]
 }
 
-// Pixel k of a character row whose tile has these colours.
+// Pixel k of a character's row whose tile has these colours.
 pub fn cell(
     vram: &[u16],
     colors: &[u16],
     p: BgParams,
     direct: bool,
-    t: Character,
+    t: TileRow,
     k: usize,
 ) -> Candidate
-    requires { ⌜ (length (now colors) ≡ coloursOf (p .bpp)) × ((t .row < 8) × (k < 8)) ⌝ }
+    requires { ⌜ (length (now colors) ≡ colourCount (p .bpp)) × (TileRowSound t × (k < 8)) ⌝ }
     ensures { λ r. ⌜ r ≡ cellIn (now (vram .entry)) (now (colors .entry)) p direct t k ⌝ }
 {
     let bpp = p.bpp;
     let layer = p.layer;
     let z = t.z;
-    let index = tiles::inner::color_index(vram, bpp, t.base, mirror(k, 8, t.flip_x), t.row);
+    let index = tiles_row::inner::index(vram, bpp, t, k);
     let color = color(colors, direct, t.palette, index);
     let pixel = LinePixel {
         color,
@@ -180,7 +181,7 @@ pub fn pixel(
 {
     let bpp = p.bpp;
     let map_row = bg_map::inner::map_row(p, py);
-    let t = character(vram, p, map_row, px / 8 * 8, py);
+    let t = character_row(vram, p, map_row, px / 8 * 8, py);
     let colors = palette(cgram, p, t.palette);
     cell(vram, colors, p, is_direct(bpp, direct), t, px % 8)
 }

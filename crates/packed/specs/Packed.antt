@@ -20,9 +20,19 @@ codeOf Obj true = 4
 codeOf Obj false = 6
 codeOf Backdrop mark = 5
 
--- above the colour's 16 bits three of the code, and above these the priority's rank
+-- above the colour's 16 bits three of the code, and above these the priority's rank, one more than the priority
+abbrev pub codePlace : ℕ
+codePlace = 65536
+
+abbrev pub rankPlace : ℕ
+rankPlace = codePlace * 8
+
 abbrev pub headOf : ℕ → Priority → ℕ
-headOf code z = 65536 * code + 524288 * (z .0 + 1)
+headOf code z = codePlace * code + rankPlace * (z .0 + 1)
+
+-- every head is below this: a priority is a byte, so a rank is 256 at most
+abbrev pub headEnd : ℕ
+headEnd = rankPlace * 257
 
 unfoldable pub packed : LinePixel → ℕ
 packed p = headOf (codeOf (p .layer) (p .«obj_math»)) (p .z) + p .color % 65536
@@ -32,22 +42,22 @@ unfoldable pub packedIf : Candidate → ℕ
 packedIf c = cond (c .opaque) (packed (c .pixel)) 0
 
 -- the number that is held after a candidate came
-abbrev pub over : ℕ → ℕ → ℕ
-over held c = cond (leb (held / 524288) (c / 524288)) c held
+abbrev pub heldAfter : ℕ → ℕ → ℕ
+heldAfter held c = cond (leb (held / rankPlace) (c / rankPlace)) c held
 
 -- unless the candidate is barred
-abbrev pub overIf : Bool → ℕ → ℕ → ℕ
-overIf barred held c = over held (cond barred 0 c)
+abbrev pub heldUnless : Bool → ℕ → ℕ → ℕ
+heldUnless barred held c = heldAfter held (cond barred 0 c)
 
--- column x of a line: five rows over a backdrop, each but for the columns that are barred to it
+-- column x of a line: the rows of five layers over a backdrop, each but for the columns that are barred to it
 unfoldable pub lineRule : ℕ → List ℕ → List Bool → List ℕ → List Bool → List ℕ → List Bool → List ℕ → List Bool → List ℕ → List Bool → ℕ → ℕ
-lineRule back a noA b noB c noC d noD e noE x =
-    overIf (getD noE x false)
-    (overIf (getD noD x false)
-    (overIf (getD noC x false)
-    (overIf (getD noB x false)
-    (overIf (getD noA x false) back (getD a x 0))
-    (getD b x 0))
-    (getD c x 0))
-    (getD d x 0))
-    (getD e x 0)
+lineRule back bg1 bg1Barred bg2 bg2Barred bg3 bg3Barred bg4 bg4Barred obj objBarred x =
+    heldUnless (getD objBarred x false)
+    (heldUnless (getD bg4Barred x false)
+    (heldUnless (getD bg3Barred x false)
+    (heldUnless (getD bg2Barred x false)
+    (heldUnless (getD bg1Barred x false) back (getD bg1 x 0))
+    (getD bg2 x 0))
+    (getD bg3 x 0))
+    (getD bg4 x 0))
+    (getD obj x 0)

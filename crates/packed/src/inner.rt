@@ -10,17 +10,23 @@ ghost use lib.ListN.{length};
 ghost use Rattle.lists.specs.Tab.{tab};
 ghost use Rattle.line.specs.Pixels.{backdropOf};
 ghost use Rattle.laying.specs.Laying.{shownAt};
-ghost use Rattle.packed.specs.Packed.{headOf, packed, over, overIf, lineRule};
+ghost use Rattle.packed.specs.Packed.{headOf, headEnd, packed, heldAfter, heldUnless, lineRule};
 
 // The backdrop's code.
 pub const BACKDROP: u32 = 5;
 
+// Where a packed pixel has its code, above the 16 bits of the colour, and where it has the rank of its
+// priority, above the three of the code.
+const CODE_PLACE: u32 = 65536;
+
+const RANK_PLACE: u32 = 524288;
+
 // What a packed pixel has above its colour: a code below 8, and its priority.
 pub fn head(code: u32, z: Priority) -> u32
     requires { ⌜ code < 8 ⌝ }
-    ensures { λ r. ⌜ (r ≡ headOf code z) × (r < 134742016) ⌝ }
+    ensures { λ r. ⌜ (r ≡ headOf code z) × (r < headEnd) ⌝ }
 {
-    65536 * code + 524288 * rank(z)
+    CODE_PLACE * code + RANK_PLACE * rank(z)
 }
 
 // A packed pixel of the backdrop.
@@ -39,14 +45,14 @@ pub fn pick(on: bool, a: u32, b: u32) -> u32
 
 // The pixel that is held after a candidate came.
 fn lay(held: u32, c: u32) -> u32
-    ensures { λ r. ⌜ r ≡ over held c ⌝ }
+    ensures { λ r. ⌜ r ≡ heldAfter held c ⌝ }
 {
-    pick(held / 524288 <= c / 524288, c, held)
+    pick(held / RANK_PLACE <= c / RANK_PLACE, c, held)
 }
 
 // The same, unless the candidate is barred.
 fn lay_unless(barred: bool, held: u32, c: u32) -> u32
-    ensures { λ r. ⌜ r ≡ overIf barred held c ⌝ }
+    ensures { λ r. ⌜ r ≡ heldUnless barred held c ⌝ }
 {
     lay(held, pick(barred, 0, c))
 }
@@ -65,58 +71,58 @@ pub fn barred(w: Window, lit: bool, win: bool) -> [bool; 256]
 // The pixel after five candidates, each unless it is barred.
 fn lay_five(
     back: u32,
-    a: u32,
-    no_a: bool,
-    b: u32,
-    no_b: bool,
-    c: u32,
-    no_c: bool,
-    d: u32,
-    no_d: bool,
-    e: u32,
-    no_e: bool,
+    bg1: u32,
+    bg1_barred: bool,
+    bg2: u32,
+    bg2_barred: bool,
+    bg3: u32,
+    bg3_barred: bool,
+    bg4: u32,
+    bg4_barred: bool,
+    obj: u32,
+    obj_barred: bool,
 ) -> u32
-    ensures { λ r. ⌜ r ≡ overIf «no_e» (overIf «no_d» (overIf «no_c» (overIf «no_b» (overIf «no_a» back a) b) c) d) e ⌝ }
+    ensures { λ r. ⌜ r ≡ heldUnless «obj_barred» (heldUnless «bg4_barred» (heldUnless «bg3_barred» (heldUnless «bg2_barred» (heldUnless «bg1_barred» back bg1) bg2) bg3) bg4) obj ⌝ }
 {
-    let first = lay_unless(no_a, back, a);
-    let second = lay_unless(no_b, first, b);
-    let third = lay_unless(no_c, second, c);
-    let fourth = lay_unless(no_d, third, d);
-    lay_unless(no_e, fourth, e)
+    let first = lay_unless(bg1_barred, back, bg1);
+    let second = lay_unless(bg2_barred, first, bg2);
+    let third = lay_unless(bg3_barred, second, bg3);
+    let fourth = lay_unless(bg4_barred, third, bg4);
+    lay_unless(obj_barred, fourth, obj)
 }
 
-// A line of one screen: the rows of five layers over a backdrop, each but for the columns that are
+// A line of one screen: the rows of the five layers over a backdrop, each but for the columns that are
 // barred to it.
 pub fn line(
     back: u32,
-    a: &[u32],
-    no_a: &[bool],
-    b: &[u32],
-    no_b: &[bool],
-    c: &[u32],
-    no_c: &[bool],
-    d: &[u32],
-    no_d: &[bool],
-    e: &[u32],
-    no_e: &[bool],
+    bg1: &[u32],
+    bg1_barred: &[bool],
+    bg2: &[u32],
+    bg2_barred: &[bool],
+    bg3: &[u32],
+    bg3_barred: &[bool],
+    bg4: &[u32],
+    bg4_barred: &[bool],
+    obj: &[u32],
+    obj_barred: &[bool],
 ) -> [u32; 256]
-    requires { ⌜ (((length (now a) ≡ 256) × (length (now «no_a») ≡ 256)) × ((length (now b) ≡ 256) × (length (now «no_b») ≡ 256))) × ((((length (now c) ≡ 256) × (length (now «no_c») ≡ 256)) × ((length (now d) ≡ 256) × (length (now «no_d») ≡ 256))) × ((length (now e) ≡ 256) × (length (now «no_e») ≡ 256))) ⌝ }
-    ensures { λ r. ⌜ r ≡ tab 256 (lineRule back (now (a .entry)) (now («no_a» .entry)) (now (b .entry)) (now («no_b» .entry)) (now (c .entry)) (now («no_c» .entry)) (now (d .entry)) (now («no_d» .entry)) (now (e .entry)) (now («no_e» .entry))) ⌝ }
+    requires { ⌜ (((length (now bg1) ≡ 256) × (length (now «bg1_barred») ≡ 256)) × ((length (now bg2) ≡ 256) × (length (now «bg2_barred») ≡ 256))) × ((((length (now bg3) ≡ 256) × (length (now «bg3_barred») ≡ 256)) × ((length (now bg4) ≡ 256) × (length (now «bg4_barred») ≡ 256))) × ((length (now obj) ≡ 256) × (length (now «obj_barred») ≡ 256))) ⌝ }
+    ensures { λ r. ⌜ r ≡ tab 256 (lineRule back (now (bg1 .entry)) (now («bg1_barred» .entry)) (now (bg2 .entry)) (now («bg2_barred» .entry)) (now (bg3 .entry)) (now («bg3_barred» .entry)) (now (bg4 .entry)) (now («bg4_barred» .entry)) (now (obj .entry)) (now («obj_barred» .entry))) ⌝ }
 {
     let mut out = [0; 256];
     for x in 0..256 {
         out[x] = lay_five(
             back,
-            a[x],
-            no_a[x],
-            b[x],
-            no_b[x],
-            c[x],
-            no_c[x],
-            d[x],
-            no_d[x],
-            e[x],
-            no_e[x],
+            bg1[x],
+            bg1_barred[x],
+            bg2[x],
+            bg2_barred[x],
+            bg3[x],
+            bg3_barred[x],
+            bg4[x],
+            bg4_barred[x],
+            obj[x],
+            obj_barred[x],
         );
     }
     out

@@ -3,21 +3,74 @@ use bg_map::BgParams;
 use bg_map::inner::extent;
 use bg_map::inner::map_row;
 use bg_map::inner::source_line;
-use bg_tile::inner::character;
+use bg_tile::inner::character_row;
+use bg_tile::inner::palette_start;
+use line::inner::bg_index;
 use modes::inner::bg_params;
-use packed_tile::inner::eight;
+use packed::inner::head;
+use packed_tile::inner::of_direct;
+use packed_tile::inner::of_eight;
+use packed_tile::inner::of_four;
+use packed_tile::inner::of_two;
 use registers::PPURegisters;
+use tiles::BitDepth;
+use tiles::inner::plane_word;
+use tiles_row::TileRow;
 ghost use mathlib.Core.Path.{_≡_};
-ghost use mathlib.Core.Bool.{cond, _||_};
+ghost use mathlib.Core.Bool.{cond, _&&_, _||_};
 ghost use Prim.Native.Nat.{_+_, _-_, _%_, _<_, _≤_};
 ghost use lib.ListN.{length, getD, take};
 ghost use Rattle.lists.specs.Tab.{tab};
 ghost use Rattle.line.specs.Pixels.{backgroundOf};
 ghost use Rattle.packed.specs.Packed.{packedIf};
 ghost use Rattle.bg_map.specs.Source.{extentOf};
-ghost use Rattle.bg_row.specs.Row.{Sound, bgPixel};
+ghost use Rattle.tiles_row.specs.Rows.{TileRowSound};
+ghost use Rattle.bg_tile.specs.Tile.{bgColours, isEight};
+ghost use Rattle.bg_tile.specs.Characters.{cellIn};
+ghost use Rattle.bg_row.specs.Row.{BgRowSound, bgPixel};
 ghost use Rattle.bg_row.specs.Cells.{cellAt};
 ghost use Rattle.modes.specs.Modes.{paramsOf};
+
+// A tile's colours, a part of colour memory in wide words.
+fn palette<'a>(g: &'a [u32], p: BgParams, n: u8) -> &'a [u32]
+    requires { ⌜ (length (now g) ≡ 256) × ((backgroundOf (p .layer) < 4) × (n < 8)) ⌝ }
+    ensures { λ r. ⌜ now r ≡ bgColours (now (g .entry)) p n ⌝ }
+{
+    let bpp = p.bpp;
+    let start = palette_start(p, n);
+    let end = start + bg_tile::inner::colors(bpp);
+    &g[start..end]
+}
+
+// The eight pixels of a character's row.
+pub fn eight(vram: &[u16], g: &[u32], p: BgParams, direct: bool, t: TileRow) -> [u32; 8]
+    requires { ⌜ ((length (now g) ≡ 256) × (backgroundOf (p .layer) < 4)) × TileRowSound t ⌝ }
+    ensures { λ r. ⌜ r ≡ tab 8 (λ k. packedIf (cellIn (now (vram .entry)) (bgColours (now (g .entry)) p (t .palette)) p (isEight (p .bpp) && direct) t k)) ⌝ }
+{
+    let bpp = p.bpp;
+    let layer = p.layer;
+    let z = t.z;
+    let head = head(bg_index(layer) as u32, z);
+    let colors = palette(g, p, t.palette);
+    let row = t.row as usize;
+    let w0 = plane_word(vram, t.base, row, 0);
+    match bpp {
+        BitDepth::Two => of_two(w0, t.flip_x, head, colors),
+        BitDepth::Four => {
+            let w1 = plane_word(vram, t.base, row, 1);
+            of_four(w0, w1, t.flip_x, head, colors)
+        }
+        BitDepth::Eight => {
+            let w1 = plane_word(vram, t.base, row, 1);
+            let w2 = plane_word(vram, t.base, row, 2);
+            let w3 = plane_word(vram, t.base, row, 3);
+            if direct {
+                return of_direct(w0, w1, w2, w3, t.flip_x, head, t.palette);
+            }
+            of_eight(w0, w1, w2, w3, t.flip_x, head, colors)
+        }
+    }
+}
 
 // Writes the cells of line py of the map: its pixels from the last multiple of 8 that the scroll has
 // passed, 33 characters of them.
@@ -29,7 +82,7 @@ fn cells(out: &mut [u32], vram: &[u16], g: &[u32], p: BgParams, direct: bool, py
     let width = extent(p.w64, p.tile16);
     let map_row = map_row(p, py);
     for j in 0..33 {
-        let t = character(vram, p, map_row, (first + j * 8) % width, py);
+        let t = character_row(vram, p, map_row, (first + j * 8) % width, py);
         let pixels = eight(vram, g, p, direct, t);
         for k in 0..8 {
             out[j * 8 + k] = pixels[k];
@@ -91,7 +144,7 @@ fn columns(out: &mut [u32], cells: &[u32], fine: usize, block: usize)
 
 // Writes what the background has at the columns of row y.
 fn drawn(out: &mut [u32], vram: &[u16], g: &[u32], r: PPURegisters, p: BgParams, y: usize)
-    requires { ⌜ (length (now out) ≡ 256) × Sound (length (now g)) (p .layer) y ⌝ }
+    requires { ⌜ (length (now out) ≡ 256) × BgRowSound (length (now g)) (p .layer) y ⌝ }
     ensures { λ u. ⌜ now (out .exit) ≡ tab 256 (λ x. packedIf (bgPixel (now (vram .entry)) (now (g .entry)) r p y x)) ⌝ }
 {
     let py = source_line(r, p, y);
@@ -102,7 +155,14 @@ fn drawn(out: &mut [u32], vram: &[u16], g: &[u32], r: PPURegisters, p: BgParams,
 }
 
 // The same of background bg into an empty row, where a screen lights it, and otherwise nothing.
-pub fn row(out: &mut [u32], vram: &[u16], g: &[u32], r: PPURegisters, y: usize, bg: usize)
+pub fn background_row(
+    out: &mut [u32],
+    vram: &[u16],
+    g: &[u32],
+    r: PPURegisters,
+    y: usize,
+    bg: usize,
+)
     requires { ⌜ (now out ≡ tab 256 (λ x. 0)) × ((length (now g) ≡ 256) × ((y < 224) × (bg < 4))) ⌝ }
     ensures { λ u. ⌜ now (out .exit) ≡ tab 256 (λ x. cond (paramsOf r bg .«to_main» || paramsOf r bg .«to_sub») (packedIf (bgPixel (now (vram .entry)) (now (g .entry)) r (paramsOf r bg) y x)) 0) ⌝ }
 {

@@ -12,16 +12,16 @@ use Rattle.line.specs.Pixels.{backdropOf}
 use Rattle.laying.specs.Laying.{shownAt}
 use Rattle.blend.specs.declared.ColorMath.{ColorMath}
 use Rattle.blend.specs.Blend.{settingsOf, region, byWindow}
-use Rattle.packed.specs.Packed.{packed, overIf}
+use Rattle.packed.specs.Packed.{packed, heldUnless}
 use Rattle.packed_composite.specs.Blended.{blended}
 
 -- each row has its 256 pixels
-pub record FiveRows (a b c d e : ℕ) : Type 0 where
-  pub first : a ≡ 256
-  pub second : b ≡ 256
-  pub third : c ≡ 256
-  pub fourth : d ≡ 256
-  pub fifth : e ≡ 256
+pub record FiveRows (bg1 bg2 bg3 bg4 obj : ℕ) : Type 0 where
+  pub long-bg1 : bg1 ≡ 256
+  pub long-bg2 : bg2 ≡ 256
+  pub long-bg3 : bg3 ≡ 256
+  pub long-bg4 : bg4 ≡ 256
+  pub long-obj : obj ≡ 256
 
 -- is column x barred to background k on a screen that has these registers? And to the sprites?
 abbrev pub bgBarred : PPURegisters → ℕ → ℕ → ℕ → ℕ → Bool
@@ -34,19 +34,19 @@ objBarred r lit win x = not (shownAt (bitOf lit 4) (bitOf win 4) (spriteWindow r
 abbrev pub insideAt : PPURegisters → ColorMath → ℕ → Bool
 insideAt r s x = (byWindow (s .«clip_mode») || byWindow (s .«math_region»)) && masked (colourWindow r) x
 
-module _ (a b c d e : List ℕ) where
+module _ (bg1 bg2 bg3 bg4 obj : List ℕ) where
   -- column x of a screen's line
   unfoldable pub screenAt : ℕ → PPURegisters → ℕ → ℕ → ℕ → ℕ
   screenAt back r lit win x =
-      overIf (objBarred r lit win x)
-      (overIf (bgBarred r lit win 3 x)
-      (overIf (bgBarred r lit win 2 x)
-      (overIf (bgBarred r lit win 1 x)
-      (overIf (bgBarred r lit win 0 x) back (getD a x 0))
-      (getD b x 0))
-      (getD c x 0))
-      (getD d x 0))
-      (getD e x 0)
+      heldUnless (objBarred r lit win x)
+      (heldUnless (bgBarred r lit win 3 x)
+      (heldUnless (bgBarred r lit win 2 x)
+      (heldUnless (bgBarred r lit win 1 x)
+      (heldUnless (bgBarred r lit win 0 x) back (getD bg1 x 0))
+      (getD bg2 x 0))
+      (getD bg3 x 0))
+      (getD bg4 x 0))
+      (getD obj x 0)
 
   -- of the sub screen's, where colour math takes it
   abbrev pub subAt : PPURegisters → ℕ → ℕ

@@ -7,6 +7,7 @@ use packed::inner::barred;
 use packed_composite::inner::keep;
 use packed_composite::inner::mix;
 use registers::PPURegisters;
+use registers::constants::OBJ_LAYER;
 use registers::inner::bit;
 use windows::inner::bg_window;
 use windows::inner::color_window;
@@ -18,9 +19,6 @@ ghost use lib.ListN.{length};
 ghost use lib.Dec.{eqb};
 ghost use Rattle.lists.specs.Tab.{tab};
 ghost use Rattle.packed_row.specs.Screens.{FiveRows, bgBarred, objBarred, screenAt, subAt, insideAt, colourOfRow};
-
-// The sprites' bit of a screen's registers.
-const OBJ: usize = 4;
 
 // The columns at which background bg is not shown on a screen that has these registers.
 fn bg_barred(r: PPURegisters, lit: u8, win: u8, bg: usize) -> [bool; 256]
@@ -36,39 +34,58 @@ fn obj_barred(r: PPURegisters, lit: u8, win: u8) -> [bool; 256]
     ensures { λ o. ⌜ o ≡ tab 256 (objBarred r lit win) ⌝ }
 {
     let window = obj_window(r);
-    barred(window, bit(lit, OBJ), bit(win, OBJ))
+    barred(window, bit(lit, OBJ_LAYER), bit(win, OBJ_LAYER))
 }
 
 // A screen's line.
 fn screen(
-    a: &[u32],
-    b: &[u32],
-    c: &[u32],
-    d: &[u32],
-    e: &[u32],
+    bg1: &[u32],
+    bg2: &[u32],
+    bg3: &[u32],
+    bg4: &[u32],
+    obj: &[u32],
     back: u32,
     r: PPURegisters,
     lit: u8,
     win: u8,
 ) -> [u32; 256]
-    requires { ⌜ FiveRows (length (now a)) (length (now b)) (length (now c)) (length (now d)) (length (now e)) ⌝ }
-    ensures { λ o. ⌜ o ≡ tab 256 (screenAt (now (a .entry)) (now (b .entry)) (now (c .entry)) (now (d .entry)) (now (e .entry)) back r lit win) ⌝ }
+    requires { ⌜ FiveRows (length (now bg1)) (length (now bg2)) (length (now bg3)) (length (now bg4)) (length (now obj)) ⌝ }
+    ensures { λ o. ⌜ o ≡ tab 256 (screenAt (now (bg1 .entry)) (now (bg2 .entry)) (now (bg3 .entry)) (now (bg4 .entry)) (now (obj .entry)) back r lit win) ⌝ }
 {
-    let no_a = bg_barred(r, lit, win, 0);
-    let no_b = bg_barred(r, lit, win, 1);
-    let no_c = bg_barred(r, lit, win, 2);
-    let no_d = bg_barred(r, lit, win, 3);
-    let no_e = obj_barred(r, lit, win);
-    packed::inner::line(back, a, &no_a, b, &no_b, c, &no_c, d, &no_d, e, &no_e)
+    let bg1_barred = bg_barred(r, lit, win, 0);
+    let bg2_barred = bg_barred(r, lit, win, 1);
+    let bg3_barred = bg_barred(r, lit, win, 2);
+    let bg4_barred = bg_barred(r, lit, win, 3);
+    let obj_barred = obj_barred(r, lit, win);
+    packed::inner::line(
+        back,
+        bg1,
+        &bg1_barred,
+        bg2,
+        &bg2_barred,
+        bg3,
+        &bg3_barred,
+        bg4,
+        &bg4_barred,
+        obj,
+        &obj_barred,
+    )
 }
 
 // The sub screen's line, where colour math takes it.
-fn sub_line(a: &[u32], b: &[u32], c: &[u32], d: &[u32], e: &[u32], r: PPURegisters) -> [u32; 256]
-    requires { ⌜ FiveRows (length (now a)) (length (now b)) (length (now c)) (length (now d)) (length (now e)) ⌝ }
-    ensures { λ o. ⌜ o ≡ tab 256 (subAt (now (a .entry)) (now (b .entry)) (now (c .entry)) (now (d .entry)) (now (e .entry)) r) ⌝ }
+fn sub_line(
+    bg1: &[u32],
+    bg2: &[u32],
+    bg3: &[u32],
+    bg4: &[u32],
+    obj: &[u32],
+    r: PPURegisters,
+) -> [u32; 256]
+    requires { ⌜ FiveRows (length (now bg1)) (length (now bg2)) (length (now bg3)) (length (now bg4)) (length (now obj)) ⌝ }
+    ensures { λ o. ⌜ o ≡ tab 256 (subAt (now (bg1 .entry)) (now (bg2 .entry)) (now (bg3 .entry)) (now (bg4 .entry)) (now (obj .entry)) r) ⌝ }
 {
     if bit(r.cgwsel, 1) {
-        return screen(a, b, c, d, e, backdrop(r.coldata), r, r.ts, r.tsw);
+        return screen(bg1, bg2, bg3, bg4, obj, backdrop(r.coldata), r, r.ts, r.tsw);
     }
     [0; 256]
 }
@@ -90,23 +107,23 @@ fn idle(s: ColorMath) -> bool
 
 // The colours of a row, before brightness. Where there is no math, the sub screen is not laid.
 pub fn colors(
-    a: &[u32],
-    b: &[u32],
-    c: &[u32],
-    d: &[u32],
-    e: &[u32],
+    bg1: &[u32],
+    bg2: &[u32],
+    bg3: &[u32],
+    bg4: &[u32],
+    obj: &[u32],
     back: u32,
     r: PPURegisters,
 ) -> [u16; 256]
-    requires { ⌜ FiveRows (length (now a)) (length (now b)) (length (now c)) (length (now d)) (length (now e)) ⌝ }
-    ensures { λ o. ⌜ o ≡ tab 256 (colourOfRow (now (a .entry)) (now (b .entry)) (now (c .entry)) (now (d .entry)) (now (e .entry)) back r) ⌝ }
+    requires { ⌜ FiveRows (length (now bg1)) (length (now bg2)) (length (now bg3)) (length (now bg4)) (length (now obj)) ⌝ }
+    ensures { λ o. ⌜ o ≡ tab 256 (colourOfRow (now (bg1 .entry)) (now (bg2 .entry)) (now (bg3 .entry)) (now (bg4 .entry)) (now (obj .entry)) back r) ⌝ }
 {
     let s = ColorMath::of(r);
     let inside = inside(r, s);
-    let main = screen(a, b, c, d, e, back, r, r.tm, r.tmw);
+    let main = screen(bg1, bg2, bg3, bg4, obj, back, r, r.tm, r.tmw);
     if idle(s) {
         return keep(&main, s.clip_mode, &inside);
     }
-    let sub = sub_line(a, b, c, d, e, r);
+    let sub = sub_line(bg1, bg2, bg3, bg4, obj, r);
     mix(&main, &sub, s, &inside)
 }

@@ -13,12 +13,12 @@ use Rattle.line.specs.declared.LinePixel.{LinePixel}
 use Rattle.line.specs.declared.Candidate.{Candidate}
 use Rattle.packed.specs.Packed.{codeOf, headOf, packed, packedIf}
 use Rattle.packed.specs.Laws.{rank-of}
-use Rattle.sprite_tile.specs.Tile.{pixelOf}
+use Rattle.sprite_tile.specs.Tile.{spritePixelOf}
 use Rattle.packed_tile.specs.Shades.{shade}
 
 -- a pixel of a tile
 pub sprite-shade : (colours : List ℕ) (palette : ℕ) (z : Priority) {code head i n : ℕ} → code ≡ codeOf Obj (leb 4 palette) →
-    head ≡ headOf code z → i ≡ n → shade colours head i ≡ packedIf (pixelOf colours palette z n)
+    head ≡ headOf code z → i ≡ n → shade colours head i ≡ packedIf (spritePixelOf colours palette z n)
 unfolding shade packedIf packed
 sprite-shade colours palette z c h e =
     λ j. cond (not (eqb (e j) 0)) ((h ∙ (λ k. headOf (c k) z)) j + getD colours (e j) 0 % 65536) 0

@@ -12,10 +12,11 @@ use borrow.Author.Tests.{lt-ltb, le-ltb, eqb-true, eqb-false}
 use Rattle.line.specs.declared.Candidate.{Candidate}
 use Rattle.line.specs.Pixels.{none}
 use Rattle.packed.specs.Packed.{packedIf}
-use Rattle.sprite_tile.specs.declared.Slice.{Slice}
-use Rattle.sprite_tile.specs.Tile.{coloursOf, pixelOf}
-use Rattle.sprite_tile.specs.Slices.{sliceIndex}
-use Rattle.sprite_fetch.specs.Walk.{blankSlice, offsetIn, drawnTo, drawnAll}
+use Rattle.tiles.specs.declared.BitDepth.the-variants.{Four}
+use Rattle.tiles_row.specs.Rows.{rowIndex}
+use Rattle.sprite_tile.specs.declared.PlacedRow.{PlacedRow}
+use Rattle.sprite_tile.specs.Tile.{spriteColours, spritePixelOf}
+use Rattle.sprite_fetch.specs.Walk.{blankRow, offsetIn, drawnTo, drawnAll}
 use Rattle.sprite_fetch.proofs.Draws.{after, other, drawn-append}
 use Rattle.packed_sprites.proofs.Over.{over-is}
 
@@ -34,7 +35,7 @@ shows-none rule e = record {
 pub shows-ext : {f g : ℕ → Candidate} {line : List ℕ} → Shows f line → ((x : ℕ) → x < 256 → f x ≡ g x) → Shows g line
 shows-ext s e = record { long = s .long; at = λ x h. s .at x h ∙ ap packedIf (e x h) }
 
-module _ (v g : List ℕ) (s : Slice) (held : ℕ → Candidate) (nine : s .«tile_x» < 512) where
+module _ (v g : List ℕ) (s : PlacedRow) (held : ℕ → Candidate) (nine : s .«tile_x» < 512) where
   -- before the tile's first pixel
   pub after-first : (x : ℕ) → held x ≡ after v g s held 0 x
   unfolding drawnTo
@@ -56,7 +57,7 @@ module _ (v g : List ℕ) (s : Slice) (held : ℕ → Candidate) (nine : s .«ti
     here x h e = omega arith
 
     abbrev pixel : Candidate
-    pixel = pixelOf (coloursOf g (s .palette)) (s .palette) (s .z) (sliceIndex v s k)
+    pixel = spritePixelOf (spriteColours g (s .tile .palette)) (s .tile .palette) (s .tile .z) (rowIndex v Four (s .tile) k)
 
     -- the pixel's column
     drawn-at : (x : ℕ) → offsetIn s x ≡ k → cond (pixel .opaque) pixel (after v g s held k x) ≡ after v g s held (k + 1) x
@@ -86,7 +87,7 @@ module _ (v g : List ℕ) (s : Slice) (held : ℕ → Candidate) (nine : s .«ti
             ∙ (w .at x h ∙ ap packedIf (other v g s held k x (λ i. apart (there x h i))))
 
 module _ (v g : List ℕ) where
-  one : (s : Slice) (x : ℕ) (h : Candidate) → drawnTo v g s 8 x h ≡ drawnAll v g (s ∷ []) x h
+  one : (s : PlacedRow) (x : ℕ) (h : Candidate) → drawnTo v g s 8 x h ≡ drawnAll v g (s ∷ []) x h
   unfolding drawnAll
   one s x h = refl
 
@@ -96,9 +97,9 @@ module _ (v g : List ℕ) where
   none-drawn x = refl
 
   -- one more tile
-  pub tile-more : (l : List Slice) (i : ℕ) → i < length l → (x : ℕ) →
-      after v g (getD l i blankSlice) (λ n. drawnAll v g (take i l) n none) 8 x ≡ drawnAll v g (take (i + 1) l) x none
+  pub tile-more : (l : List PlacedRow) (i : ℕ) → i < length l → (x : ℕ) →
+      after v g (getD l i blankRow) (λ n. drawnAll v g (take i l) n none) 8 x ≡ drawnAll v g (take (i + 1) l) x none
   tile-more l i h x =
-      one (getD l i blankSlice) x (drawnAll v g (take i l) x none)
-      ∙ (sym (drawn-append v g (take i l) (getD l i blankSlice ∷ []) x none)
-      ∙ (λ j. drawnAll v g ((sym (take-suc l i blankSlice h) ∙ ap (λ (n : ℕ). take n l) (sym (add-one i))) j) x none))
+      one (getD l i blankRow) x (drawnAll v g (take i l) x none)
+      ∙ (sym (drawn-append v g (take i l) (getD l i blankRow ∷ []) x none)
+      ∙ (λ j. drawnAll v g ((sym (take-suc l i blankRow h) ∙ ap (λ (n : ℕ). take n l) (sym (add-one i))) j) x none))

@@ -3,11 +3,14 @@ use packed::inner::head;
 use packed::inner::pick;
 use packed_tile::inner::of_four;
 use registers::PPURegisters;
+use registers::constants::OBJ_LAYER;
 use registers::inner::bit;
 use sprite_fetch::Fetched;
-use sprite_tile::Slice;
+use sprite_tile::inner::OBJ_COLORS;
+use sprite_tile::inner::PALETTE_COLORS;
 use sprites::inner::fetched_rows;
 use tiles::inner::plane_word;
+use tiles_row::TileRow;
 ghost use mathlib.Core.Path.{_≡_};
 ghost use mathlib.Core.Bool.{cond, not, _||_};
 ghost use Prim.Native.Nat.{_+_, _<_, _≤_};
@@ -19,21 +22,19 @@ ghost use Rattle.row_tests.specs.Tests.{RowTested};
 ghost use Rattle.line.specs.Pixels.{none};
 ghost use Rattle.line.specs.declared.Layer.the-variants.{Obj};
 ghost use Rattle.packed.specs.Packed.{codeOf, packedIf};
-ghost use Rattle.sprite_tile.specs.Tile.{coloursOf, pixelOf};
-ghost use Rattle.sprite_tile.specs.Slices.{Sound, sliceIndex};
+ghost use Rattle.sprite_tile.specs.Tile.{spriteColours, spritePixelOf};
+ghost use Rattle.tiles.specs.declared.BitDepth.the-variants.{Four};
+ghost use Rattle.tiles_row.specs.Rows.{TileRowSound, rowIndex};
 ghost use Rattle.sprite_fetch.specs.Walk.{AllSound, drawnAll};
 ghost use Rattle.sprites.specs.Sprites as sprites;
-
-// The sprites' bit of tm and ts.
-const OBJ: usize = 4;
 
 // A palette's colours, a part of colour memory.
 fn colors<'a>(g: &'a [u32], n: u8) -> &'a [u32]
     requires { ⌜ (length (now g) ≡ 256) × (n < 8) ⌝ }
-    ensures { λ r. ⌜ now r ≡ coloursOf (now (g .entry)) n ⌝ }
+    ensures { λ r. ⌜ now r ≡ spriteColours (now (g .entry)) n ⌝ }
 {
-    let start = 128 + 16 * n as usize;
-    let end = start + 16;
+    let start = OBJ_COLORS + PALETTE_COLORS * n as usize;
+    let end = start + PALETTE_COLORS;
     &g[start..end]
 }
 
@@ -45,16 +46,16 @@ fn code(palette: u8) -> u32
 }
 
 // The eight pixels of a tile's row.
-fn pixels(vram: &[u16], g: &[u32], s: Slice) -> [u32; 8]
-    requires { ⌜ (length (now g) ≡ 256) × Sound s ⌝ }
-    ensures { λ r. ⌜ r ≡ tab 8 (λ k. packedIf (pixelOf (coloursOf (now (g .entry)) (s .palette)) (s .palette) (s .z) (sliceIndex (now (vram .entry)) s k))) ⌝ }
+fn pixels(vram: &[u16], g: &[u32], t: TileRow) -> [u32; 8]
+    requires { ⌜ (length (now g) ≡ 256) × TileRowSound t ⌝ }
+    ensures { λ r. ⌜ r ≡ tab 8 (λ k. packedIf (spritePixelOf (spriteColours (now (g .entry)) (t .palette)) (t .palette) (t .z) (rowIndex (now (vram .entry)) Four t k))) ⌝ }
 {
-    let z = s.z;
-    let head = head(code(s.palette), z);
-    let colors = colors(g, s.palette);
-    let w0 = plane_word(vram, s.base, s.row as usize, 0);
-    let w1 = plane_word(vram, s.base, s.row as usize, 1);
-    of_four(w0, w1, s.flip_x, head, colors)
+    let z = t.z;
+    let head = head(code(t.palette), z);
+    let colors = colors(g, t.palette);
+    let w0 = plane_word(vram, t.base, t.row as usize, 0);
+    let w1 = plane_word(vram, t.base, t.row as usize, 1);
+    of_four(w0, w1, t.flip_x, head, colors)
 }
 
 // The pixel that is held after another is drawn over it.
@@ -79,17 +80,17 @@ fn middle(line: &[u32]) -> [u32; 256]
 // The sprite line. A tile that meets the picture is drawn whole, for the line has room for the rest
 // of it.
 fn draw(f: Fetched, vram: &[u16], g: &[u32]) -> [u32; 256]
-    requires { ⌜ (length (now g) ≡ 256) × ((f .count ≤ 34) × AllSound (f .count) (f .slices)) ⌝ }
-    ensures { λ r. ⌜ r ≡ tab 256 (λ x. packedIf (drawnAll (now (vram .entry)) (now (g .entry)) (take (f .count) (f .slices)) x none)) ⌝ }
+    requires { ⌜ (length (now g) ≡ 256) × ((f .count ≤ 34) × AllSound (f .count) (f .rows)) ⌝ }
+    ensures { λ r. ⌜ r ≡ tab 256 (λ x. packedIf (drawnAll (now (vram .entry)) (now (g .entry)) (take (f .count) (f .rows)) x none)) ⌝ }
 {
     let mut line = [0; 272];
     for i in 0..f.count {
-        let s = f.slices[i];
+        let s = f.rows[i];
         let at = (s.tile_x as usize + 8) % 512;
         if at >= 264 {
             continue;
         }
-        let eight = pixels(vram, g, s);
+        let eight = pixels(vram, g, s.tile);
         for k in 0..8 {
             line[at + k] = over(eight[k], line[at + k]);
         }
@@ -98,11 +99,11 @@ fn draw(f: Fetched, vram: &[u16], g: &[u32]) -> [u32; 256]
 }
 
 // The sprite line, where a screen lights the sprites, and otherwise nothing.
-pub fn row(vram: &[u16], g: &[u32], oam: &[u8], r: PPURegisters, y: usize) -> [u32; 256]
+pub fn sprites_row(vram: &[u16], g: &[u32], oam: &[u8], r: PPURegisters, y: usize) -> [u32; 256]
     requires { ⌜ RowTested (length (now g)) (length (now oam)) y ⌝ }
     ensures { λ l. ⌜ l ≡ tab 256 (λ x. cond (bitOf (r .tm) 4 || bitOf (r .ts) 4) (packedIf (sprites.spritePixel (now (vram .entry)) (now (g .entry)) (now (oam .entry)) r y x)) 0) ⌝ }
 {
-    if bit(r.tm, OBJ) | bit(r.ts, OBJ) {
+    if bit(r.tm, OBJ_LAYER) | bit(r.ts, OBJ_LAYER) {
         return draw(fetched_rows(oam, r, y), vram, g);
     }
     [0; 256]

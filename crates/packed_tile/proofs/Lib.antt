@@ -1,2 +1,2 @@
-pub mod Eight
+pub mod Indexes
 pub mod Order

@@ -1,4 +1,4 @@
--- A character row's columns, in the order in which they are shown.
+-- The columns of a tile's row, in the order in which they are shown.
 use Prim.Native.Nat.{ℕ, _<_}
 use mathlib.Core.Path.{_≡_, sym, subst, _∙_}
 use mathlib.Core.Bool.{Bool, true, false}

@@ -1,24 +1,13 @@
-// What the crates above ask of packed character rows.
-use bg_map::BgParams;
-use bg_tile::Character;
-use bg_tile::inner::palette_start;
+// What the crates above ask of the packed pixels of a tile's row.
 use colour::direct_color;
-use line::inner::bg_index;
-use packed::inner::head;
 use packed::inner::pick;
-use tiles::BitDepth;
 use tiles::inner::mirror;
-use tiles::inner::plane_word;
 ghost use mathlib.Core.Path.{_≡_};
-ghost use mathlib.Core.Bool.{_&&_};
 ghost use Prim.Native.Nat.{_<_};
 ghost use lib.ListN.{length};
 ghost use Rattle.lists.specs.Tab.{tab};
-ghost use Rattle.tiles.specs.Tiles.{pairOf, mirrored};
-ghost use Rattle.line.specs.Pixels.{backgroundOf};
-ghost use Rattle.packed.specs.Packed.{packedIf};
-ghost use Rattle.bg_tile.specs.Tile.{paletteOf, isEight};
-ghost use Rattle.bg_tile.specs.Characters.{cellIn};
+ghost use Rattle.tiles.specs.Tiles.{twoBits, mirrored};
+ghost use Rattle.packed.specs.Packed.{headEnd};
 ghost use Rattle.packed_tile.specs.Shades.{fourOf, eightOf, shade, shadeDirect};
 
 fn widened(color: u16) -> u32
@@ -39,20 +28,9 @@ pub fn wide(cgram: &[u16]) -> [u32; 256]
     out
 }
 
-// A tile's colours, a part of it.
-fn palette<'a>(g: &'a [u32], p: BgParams, n: u8) -> &'a [u32]
-    requires { ⌜ (length (now g) ≡ 256) × ((backgroundOf (p .layer) < 4) × (n < 8)) ⌝ }
-    ensures { λ r. ⌜ now r ≡ paletteOf (now (g .entry)) p n ⌝ }
-{
-    let bpp = p.bpp;
-    let start = palette_start(p, n);
-    let end = start + bg_tile::inner::colors(bpp);
-    &g[start..end]
-}
-
 // The packed pixel of a colour index, under its head.
 fn shaded(colors: &[u32], head: u32, index: u32) -> u32
-    requires { ⌜ (index < length (now colors)) × (head < 134742016) ⌝ }
+    requires { ⌜ (index < length (now colors)) × (head < headEnd) ⌝ }
     ensures { λ r. ⌜ r ≡ shade (now (colors .entry)) head index ⌝ }
 {
     let at = index as usize;
@@ -63,7 +41,7 @@ fn shaded(colors: &[u32], head: u32, index: u32) -> u32
 // eight columns are then found at once.
 fn two_bits(word: u16, col: u32) -> u32
     requires { ⌜ col < 8 ⌝ }
-    ensures { λ r. ⌜ (r ≡ pairOf word col) × (r < 4) ⌝ }
+    ensures { λ r. ⌜ (r ≡ twoBits word col) × (r < 4) ⌝ }
 {
     let w = word as u32;
     (w >> (7 - col)) % 2 + (w >> (15 - col)) % 2 * 2
@@ -89,7 +67,7 @@ fn index_eight(w0: u16, w1: u16, w2: u16, w3: u16, col: u32) -> u32
     low + 16 * high
 }
 
-// The columns of a character row in the order in which they are shown. They are found before the
+// The columns of a tile's row in the order in which they are shown. They are found before the
 // pixels, so that the pixels' loop asks nothing of the flip.
 fn turned(flip: bool) -> [u32; 8]
     ensures { λ r. ⌜ r ≡ tab 8 (λ k. mirrored k 8 flip) ⌝ }
@@ -102,9 +80,9 @@ fn turned(flip: bool) -> [u32; 8]
 }
 
 // Eight pixels of four colours.
-fn of_two(w0: u16, flip: bool, head: u32, colors: &[u32]) -> [u32; 8]
-    requires { ⌜ (length (now colors) ≡ 4) × (head < 134742016) ⌝ }
-    ensures { λ r. ⌜ r ≡ tab 8 (λ k. shade (now (colors .entry)) head (pairOf w0 (mirrored k 8 flip))) ⌝ }
+pub fn of_two(w0: u16, flip: bool, head: u32, colors: &[u32]) -> [u32; 8]
+    requires { ⌜ (length (now colors) ≡ 4) × (head < headEnd) ⌝ }
+    ensures { λ r. ⌜ r ≡ tab 8 (λ k. shade (now (colors .entry)) head (twoBits w0 (mirrored k 8 flip))) ⌝ }
 {
     let cols = turned(flip);
     let mut out = [0; 8];
@@ -116,7 +94,7 @@ fn of_two(w0: u16, flip: bool, head: u32, colors: &[u32]) -> [u32; 8]
 
 // Of 16.
 pub fn of_four(w0: u16, w1: u16, flip: bool, head: u32, colors: &[u32]) -> [u32; 8]
-    requires { ⌜ (length (now colors) ≡ 16) × (head < 134742016) ⌝ }
+    requires { ⌜ (length (now colors) ≡ 16) × (head < headEnd) ⌝ }
     ensures { λ r. ⌜ r ≡ tab 8 (λ k. shade (now (colors .entry)) head (fourOf w0 w1 (mirrored k 8 flip))) ⌝ }
 {
     let cols = turned(flip);
@@ -128,8 +106,16 @@ pub fn of_four(w0: u16, w1: u16, flip: bool, head: u32, colors: &[u32]) -> [u32;
 }
 
 // Of 256.
-fn of_eight(w0: u16, w1: u16, w2: u16, w3: u16, flip: bool, head: u32, colors: &[u32]) -> [u32; 8]
-    requires { ⌜ (length (now colors) ≡ 256) × (head < 134742016) ⌝ }
+pub fn of_eight(
+    w0: u16,
+    w1: u16,
+    w2: u16,
+    w3: u16,
+    flip: bool,
+    head: u32,
+    colors: &[u32],
+) -> [u32; 8]
+    requires { ⌜ (length (now colors) ≡ 256) × (head < headEnd) ⌝ }
     ensures { λ r. ⌜ r ≡ tab 8 (λ k. shade (now (colors .entry)) head (eightOf w0 w1 w2 w3 (mirrored k 8 flip))) ⌝ }
 {
     let cols = turned(flip);
@@ -142,7 +128,7 @@ fn of_eight(w0: u16, w1: u16, w2: u16, w3: u16, flip: bool, head: u32, colors: &
 
 // The packed pixel of a colour index in direct colour.
 fn shaded_direct(palette: u8, head: u32, index: u32) -> u32
-    requires { ⌜ (index < 256) × (head < 134742016) ⌝ }
+    requires { ⌜ (index < 256) × (head < headEnd) ⌝ }
     ensures { λ r. ⌜ r ≡ shadeDirect palette head index ⌝ }
 {
     pick(
@@ -153,8 +139,8 @@ fn shaded_direct(palette: u8, head: u32, index: u32) -> u32
 }
 
 // Of direct colour.
-fn of_direct(w0: u16, w1: u16, w2: u16, w3: u16, flip: bool, head: u32, palette: u8) -> [u32; 8]
-    requires { ⌜ head < 134742016 ⌝ }
+pub fn of_direct(w0: u16, w1: u16, w2: u16, w3: u16, flip: bool, head: u32, palette: u8) -> [u32; 8]
+    requires { ⌜ head < headEnd ⌝ }
     ensures { λ r. ⌜ r ≡ tab 8 (λ k. shadeDirect palette head (eightOf w0 w1 w2 w3 (mirrored k 8 flip))) ⌝ }
 {
     let cols = turned(flip);
@@ -163,33 +149,4 @@ fn of_direct(w0: u16, w1: u16, w2: u16, w3: u16, flip: bool, head: u32, palette:
         out[k] = shaded_direct(palette, head, index_eight(w0, w1, w2, w3, cols[k]));
     }
     out
-}
-
-// The eight pixels of a character row.
-pub fn eight(vram: &[u16], g: &[u32], p: BgParams, direct: bool, t: Character) -> [u32; 8]
-    requires { ⌜ ((length (now g) ≡ 256) × (backgroundOf (p .layer) < 4)) × ((t .row < 8) × (t .palette < 8)) ⌝ }
-    ensures { λ r. ⌜ r ≡ tab 8 (λ k. packedIf (cellIn (now (vram .entry)) (paletteOf (now (g .entry)) p (t .palette)) p (isEight (p .bpp) && direct) t k)) ⌝ }
-{
-    let bpp = p.bpp;
-    let layer = p.layer;
-    let z = t.z;
-    let head = head(bg_index(layer) as u32, z);
-    let colors = palette(g, p, t.palette);
-    let w0 = plane_word(vram, t.base, t.row, 0);
-    match bpp {
-        BitDepth::Two => of_two(w0, t.flip_x, head, colors),
-        BitDepth::Four => {
-            let w1 = plane_word(vram, t.base, t.row, 1);
-            of_four(w0, w1, t.flip_x, head, colors)
-        }
-        BitDepth::Eight => {
-            let w1 = plane_word(vram, t.base, t.row, 1);
-            let w2 = plane_word(vram, t.base, t.row, 2);
-            let w3 = plane_word(vram, t.base, t.row, 3);
-            if direct {
-                return of_direct(w0, w1, w2, w3, t.flip_x, head, t.palette);
-            }
-            of_eight(w0, w1, w2, w3, t.flip_x, head, colors)
-        }
-    }
 }

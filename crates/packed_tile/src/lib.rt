@@ -1,2 +1,2 @@
-// The eight pixels of a character row, packed. The plane words are read once for all eight.
+// The eight pixels of a row of a tile, packed, from its plane words, which are read once for all eight.
 pub mod inner;

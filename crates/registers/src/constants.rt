@@ -8,6 +8,8 @@ pub const SCREEN_HEIGHT: usize = 224;
 pub const BACKGROUNDS: usize = 4;
 // Layers: the backgrounds, then the sprites.
 pub const LAYERS: usize = 5;
+// The sprites among the layers: their bit of tm, ts, tmw and tsw.
+pub const OBJ_LAYER: usize = 4;
 // The largest mosaic counter.
 pub const LARGEST_COUNTER: u8 = 16;
 // The words of colour memory.

@@ -24,7 +24,7 @@ use Rattle.sprites.specs.Sprites as sprites
 use Rattle.blend.specs.Blend.{settingsOf, region, colourOf}
 use Rattle.composite.specs.Composite.{colourAt}
 use Rattle.composite.proofs.Idle.{asks, asked}
-use Rattle.packed.specs.Packed.{packed, packedIf, over}
+use Rattle.packed.specs.Packed.{packed, packedIf, heldAfter}
 use Rattle.packed.specs.Laws.{barred-packed, laid-at}
 use Rattle.packed_composite.specs.Blended.{blended}
 use Rattle.packed_composite.specs.Laws.{low16, blended-is, any-sub}
@@ -111,11 +111,11 @@ module _ (s : Scene) (y : ℕ) where
       unfolding screenAt
       line-at =
           let back = packed (backdropOf colour) in
-          let first = (λ i. over back (bg-read 0 i)) ∙ laid-at (bgOn 0) (backdropLine colour) x back h (sym (ap packed (getD-backdrop colour x h))) in
-          let second = (λ i. over (first i) (bg-read 1 i)) ∙ laid-at (bgOn 1) one x _ h refl in
-          let third = (λ i. over (second i) (bg-read 2 i)) ∙ laid-at (bgOn 2) two x _ h refl in
-          let fourth = (λ i. over (third i) (bg-read 3 i)) ∙ laid-at (bgOn 3) three x _ h refl in
-          (λ i. over (fourth i) (sprite-read i)) ∙ laid-at spriteOn four x _ h refl
+          let first = (λ i. heldAfter back (bg-read 0 i)) ∙ laid-at (bgOn 0) (backdropLine colour) x back h (sym (ap packed (getD-backdrop colour x h))) in
+          let second = (λ i. heldAfter (first i) (bg-read 1 i)) ∙ laid-at (bgOn 1) one x _ h refl in
+          let third = (λ i. heldAfter (second i) (bg-read 2 i)) ∙ laid-at (bgOn 2) two x _ h refl in
+          let fourth = (λ i. heldAfter (third i) (bg-read 3 i)) ∙ laid-at (bgOn 3) three x _ h refl in
+          (λ i. heldAfter (fourth i) (sprite-read i)) ∙ laid-at spriteOn four x _ h refl
 
   module _ (x : ℕ) (h : x < 256) where
     main-at :

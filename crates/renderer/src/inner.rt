@@ -24,14 +24,14 @@ fn mixed(vram: &[u16], cgram: &[u16], oam: &[u8], r: PPURegisters, y: usize) -> 
     let back = backdrop(cgram[0]);
     let g = wide(cgram);
     let mut first = [0; 256];
-    packed_bg::inner::row(&mut first, vram, &g, r, y, 0);
+    packed_bg::inner::background_row(&mut first, vram, &g, r, y, 0);
     let mut second = [0; 256];
-    packed_bg::inner::row(&mut second, vram, &g, r, y, 1);
+    packed_bg::inner::background_row(&mut second, vram, &g, r, y, 1);
     let mut third = [0; 256];
-    packed_bg::inner::row(&mut third, vram, &g, r, y, 2);
+    packed_bg::inner::background_row(&mut third, vram, &g, r, y, 2);
     let mut fourth = [0; 256];
-    packed_bg::inner::row(&mut fourth, vram, &g, r, y, 3);
-    let fifth = packed_sprites::inner::row(vram, &g, oam, r, y);
+    packed_bg::inner::background_row(&mut fourth, vram, &g, r, y, 3);
+    let fifth = packed_sprites::inner::sprites_row(vram, &g, oam, r, y);
     colors(&first, &second, &third, &fourth, &fifth, back, r)
 }
 

@@ -103,7 +103,7 @@ fn section(scene: &[u8], k: usize, n: usize) -> Verdict
 }
 
 // The tests from the last section's end on.
-fn from_end(scene: &[u8]) -> Verdict
+fn test_from_end(scene: &[u8]) -> Verdict
     requires { ⌜ 66656 ≤ length (now scene) ⌝ }
     ensures { λ v. ⌜ verdictMeans v ≡ fromEnd (now (scene .entry)) ⌝ }
 {
@@ -114,31 +114,31 @@ fn from_end(scene: &[u8]) -> Verdict
 }
 
 // The tests from VRAM's section on.
-fn from_vram(scene: &[u8]) -> Verdict
+fn test_from_vram(scene: &[u8]) -> Verdict
     ensures { λ v. ⌜ (verdictMeans v ≡ fromVram (now (scene .entry))) × (Passed v → 66656 ≤ length (now (scene .entry))) ⌝ }
 {
     match section(scene, 1116, VRAM_BYTES) {
-        Verdict::Fine => from_end(scene),
+        Verdict::Fine => test_from_end(scene),
         Verdict::Refused(n) => Verdict::Refused(n),
     }
 }
 
 // From colour memory's.
-fn from_colours(scene: &[u8]) -> Verdict
+fn test_from_colours(scene: &[u8]) -> Verdict
     ensures { λ v. ⌜ (verdictMeans v ≡ fromColours (now (scene .entry))) × (Passed v → 66656 ≤ length (now (scene .entry))) ⌝ }
 {
     match section(scene, 600, COLOUR_BYTES) {
-        Verdict::Fine => from_vram(scene),
+        Verdict::Fine => test_from_vram(scene),
         Verdict::Refused(n) => Verdict::Refused(n),
     }
 }
 
 // From sprite memory's.
-fn from_sprites(scene: &[u8]) -> Verdict
+fn test_from_sprites(scene: &[u8]) -> Verdict
     ensures { λ v. ⌜ (verdictMeans v ≡ fromSprites (now (scene .entry))) × (Passed v → 66656 ≤ length (now (scene .entry))) ⌝ }
 {
     match section(scene, 52, OAM_SIZE) {
-        Verdict::Fine => from_colours(scene),
+        Verdict::Fine => test_from_colours(scene),
         Verdict::Refused(n) => Verdict::Refused(n),
     }
 }
@@ -148,7 +148,7 @@ pub fn scene_tested(scene: &[u8]) -> Verdict
     ensures { λ v. ⌜ (verdictMeans v ≡ sceneTests (now (scene .entry))) × (Passed v → 66656 ≤ length (now (scene .entry))) ⌝ }
 {
     match section(scene, 0, REGISTER_BYTES) {
-        Verdict::Fine => from_sprites(scene),
+        Verdict::Fine => test_from_sprites(scene),
         Verdict::Refused(n) => Verdict::Refused(n),
     }
 }

@@ -57,7 +57,7 @@ fn end(byte: &mut [u8]) -> Verdict
 }
 
 // Reads VRAM's section, and sees that it is the last.
-fn from_vram(vram: &mut [u16]) -> Verdict
+fn read_from_vram(vram: &mut [u16]) -> Verdict
     requires { ⌜ length (now vram) ≡ 32768 ⌝ }
     ensures { λ v. ⌜ ReadAs vramOn (HeldVram (now (vram .exit))) v ⌝ }
 {
@@ -70,25 +70,25 @@ fn from_vram(vram: &mut [u16]) -> Verdict
 }
 
 // Reads on from colour memory's section.
-fn from_colours(cgram: &mut [u16], vram: &mut [u16]) -> Verdict
+fn read_from_colours(cgram: &mut [u16], vram: &mut [u16]) -> Verdict
     requires { ⌜ (length (now cgram) ≡ 256) × (length (now vram) ≡ 32768) ⌝ }
     ensures { λ v. ⌜ ReadAs coloursOn (HeldColours (now (cgram .exit)) (now (vram .exit))) v ⌝ }
 {
     let mut body = [0u8; 512];
     match word_section(cgram, &mut body, COLOUR_WORDS) {
-        Verdict::Fine => from_vram(vram),
+        Verdict::Fine => read_from_vram(vram),
         Verdict::Refused(k) => Verdict::Refused(k),
     }
 }
 
 // From sprite memory's.
-fn from_sprites(oam: &mut [u8], cgram: &mut [u16], vram: &mut [u16]) -> Verdict
+fn read_from_sprites(oam: &mut [u8], cgram: &mut [u16], vram: &mut [u16]) -> Verdict
     requires { ⌜ (length (now oam) ≡ 544) × ((length (now cgram) ≡ 256) × (length (now vram) ≡ 32768)) ⌝ }
     ensures { λ v. ⌜ ReadAs spritesOn (HeldSprites (now (oam .exit)) (now (cgram .exit)) (now (vram .exit))) v ⌝ }
 {
     let mut count = [0u8; COUNT_BYTES];
     match section(&mut count, oam, OAM_SIZE) {
-        Verdict::Fine => from_colours(cgram, vram),
+        Verdict::Fine => read_from_colours(cgram, vram),
         Verdict::Refused(k) => Verdict::Refused(k),
     }
 }
@@ -100,7 +100,7 @@ fn sections(registers: &mut [u8], oam: &mut [u8], cgram: &mut [u16], vram: &mut 
 {
     let mut count = [0u8; COUNT_BYTES];
     match section(&mut count, registers, REGISTER_BYTES) {
-        Verdict::Fine => from_sprites(oam, cgram, vram),
+        Verdict::Fine => read_from_sprites(oam, cgram, vram),
         Verdict::Refused(k) => Verdict::Refused(k),
     }
 }

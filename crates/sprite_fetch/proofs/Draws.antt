@@ -12,10 +12,11 @@ use borrow.Author.Tests.{lt-ltb, le-ltb, ltb-true, ltb-false, eq-eqb, ne-eqb, eq
 use Rattle.lists.specs.Tab.{tab, tab-ext, tab-set, tab-same}
 use Rattle.line.specs.declared.Candidate.{Candidate}
 use Rattle.line.specs.Pixels.{none}
-use Rattle.sprite_tile.specs.declared.Slice.{Slice}
-use Rattle.sprite_tile.specs.Tile.{coloursOf, pixelOf}
-use Rattle.sprite_tile.specs.Slices.{sliceIndex}
-use Rattle.sprite_fetch.specs.Walk.{blankSlice, offsetIn, drawnTo, drawnAll, drawnLine}
+use Rattle.tiles.specs.declared.BitDepth.the-variants.{Four}
+use Rattle.tiles_row.specs.Rows.{rowIndex}
+use Rattle.sprite_tile.specs.declared.PlacedRow.{PlacedRow}
+use Rattle.sprite_tile.specs.Tile.{spriteColours, spritePixelOf}
+use Rattle.sprite_fetch.specs.Walk.{blankRow, offsetIn, drawnTo, drawnAll, drawnLine}
 
 -- below k + 1 and not k: below k
 below-other : (a k : ℕ) → (a ≡ k → ⊥) → ltb a k ≡ ltb a (k + 1)
@@ -25,7 +26,7 @@ below-other a k d = by-cases (ltb a k) refl
     by-cases true e = let h : a < k = ltb-true a k e in e ∙ sym (lt-ltb a (k + 1) (omega arith))
     by-cases false e = let h : k ≤ a = ltb-false a k e in e ∙ sym (le-ltb a (k + 1) (omega (arith, d)))
 
-module _ (v g : List ℕ) (s : Slice) where
+module _ (v g : List ℕ) (s : PlacedRow) where
   -- what the columns hold after the tile's first k pixels, from what they held before
   abbrev pub after : (ℕ → Candidate) → ℕ → ℕ → Candidate
   after held k x = drawnTo v g s k x (held x)
@@ -41,25 +42,25 @@ module _ (v g : List ℕ) (s : Slice) where
     other x d = rw (below-other (offsetIn s x) k d)
 
     -- the pixel's column, where it is clear
-    clear-at : (x : ℕ) → sliceIndex v s k ≡ 0 → offsetIn s x ≡ k → after held k x ≡ after held (k + 1) x
+    clear-at : (x : ℕ) → rowIndex v Four (s .tile) k ≡ 0 → offsetIn s x ≡ k → after held k x ≡ after held (k + 1) x
     unfolding drawnTo
     clear-at x z e =
-        rw (e, le-ltb k k (omega arith), lt-ltb k (k + 1) (omega arith), eq-eqb (sliceIndex v s k) 0 z)
+        rw (e, le-ltb k k (omega arith), lt-ltb k (k + 1) (omega arith), eq-eqb (rowIndex v Four (s .tile) k) 0 z)
 
     -- and where it is opaque
-    set-at : (x : ℕ) → (sliceIndex v s k ≡ 0 → ⊥) → offsetIn s x ≡ k →
-        pixelOf (coloursOf g (s .palette)) (s .palette) (s .z) (sliceIndex v s k) ≡ after held (k + 1) x
+    set-at : (x : ℕ) → (rowIndex v Four (s .tile) k ≡ 0 → ⊥) → offsetIn s x ≡ k →
+        spritePixelOf (spriteColours g (s .tile .palette)) (s .tile .palette) (s .tile .z) (rowIndex v Four (s .tile) k) ≡ after held (k + 1) x
     unfolding drawnTo
-    set-at x z e = rw (e, lt-ltb k (k + 1) (omega arith), ne-eqb (sliceIndex v s k) 0 z)
+    set-at x z e = rw (e, lt-ltb k (k + 1) (omega arith), ne-eqb (rowIndex v Four (s .tile) k) 0 z)
 
-    either : (x : ℕ) → sliceIndex v s k ≡ 0 → after held k x ≡ after held (k + 1) x
+    either : (x : ℕ) → rowIndex v Four (s .tile) k ≡ 0 → after held k x ≡ after held (k + 1) x
     either x z = by-cases (eqb (offsetIn s x) k) refl
       where
         by-cases : (t : Bool) → eqb (offsetIn s x) k ≡ t → after held k x ≡ after held (k + 1) x
         by-cases true e = clear-at x z (eqb-true (offsetIn s x) k e)
         by-cases false e = other x (eqb-false (offsetIn s x) k e)
 
-    pub clear : sliceIndex v s k ≡ 0 → tab 256 (after held k) ≡ tab 256 (after held (k + 1))
+    pub clear : rowIndex v Four (s .tile) k ≡ 0 → tab 256 (after held k) ≡ tab 256 (after held (k + 1))
     clear z = tab-ext 256 (after held k) (after held (k + 1)) (λ x h. either x z)
 
     module _ (nine : s .«tile_x» < 512) (low : k < 8) where
@@ -76,8 +77,8 @@ module _ (v g : List ℕ) (s : Slice) where
           (λ x h. other x (λ e. let d = there x h e in absurd (omega arith)))
 
       -- an opaque one in it
-      pub drawn : (s .«tile_x» + k) % 512 < 256 → (sliceIndex v s k ≡ 0 → ⊥) →
-          set (tab 256 (after held k)) ((s .«tile_x» + k) % 512) (pixelOf (coloursOf g (s .palette)) (s .palette) (s .z) (sliceIndex v s k))
+      pub drawn : (s .«tile_x» + k) % 512 < 256 → (rowIndex v Four (s .tile) k ≡ 0 → ⊥) →
+          set (tab 256 (after held k)) ((s .«tile_x» + k) % 512) (spritePixelOf (spriteColours g (s .tile .palette)) (s .tile .palette) (s .tile .z) (rowIndex v Four (s .tile) k))
           ≡ tab 256 (after held (k + 1))
       drawn b z =
           let j = (s .«tile_x» + k) % 512 in
@@ -90,20 +91,20 @@ module _ (v g : List ℕ) where
   unfolding drawnAll
   drawn-none e = tab-same 256 e
 
-  pub drawn-append : (l m : List Slice) (x : ℕ) (h : Candidate) → drawnAll v g (l ++ m) x h ≡ drawnAll v g m x (drawnAll v g l x h)
+  pub drawn-append : (l m : List PlacedRow) (x : ℕ) (h : Candidate) → drawnAll v g (l ++ m) x h ≡ drawnAll v g m x (drawnAll v g l x h)
   unfolding drawnAll
   drawn-append [] m x h = refl
   drawn-append (s ∷ l) m x h = drawn-append l m x (drawnTo v g s 8 x h)
 
-  one : (s : Slice) (x : ℕ) (h : Candidate) → drawnTo v g s 8 x h ≡ drawnAll v g (s ∷ []) x h
+  one : (s : PlacedRow) (x : ℕ) (h : Candidate) → drawnTo v g s 8 x h ≡ drawnAll v g (s ∷ []) x h
   unfolding drawnAll
   one s x h = refl
 
   -- one more tile
-  pub drawn-more : (l : List Slice) (i : ℕ) → i < length l →
-      tab 256 (after v g (getD l i blankSlice) (λ x. drawnAll v g (take i l) x none) 8) ≡ drawnLine v g (take (i + 1) l)
+  pub drawn-more : (l : List PlacedRow) (i : ℕ) → i < length l →
+      tab 256 (after v g (getD l i blankRow) (λ x. drawnAll v g (take i l) x none) 8) ≡ drawnLine v g (take (i + 1) l)
   drawn-more l i h =
       tab-ext 256 _ _
-      (λ x b. one (getD l i blankSlice) x (drawnAll v g (take i l) x none)
-      ∙ (sym (drawn-append (take i l) (getD l i blankSlice ∷ []) x none)
-      ∙ (λ j. drawnAll v g ((sym (take-suc l i blankSlice h) ∙ ap (λ (n : ℕ). take n l) (sym (add-one i))) j) x none)))
+      (λ x b. one (getD l i blankRow) x (drawnAll v g (take i l) x none)
+      ∙ (sym (drawn-append (take i l) (getD l i blankRow ∷ []) x none)
+      ∙ (λ j. drawnAll v g ((sym (take-suc l i blankRow h) ∙ ap (λ (n : ℕ). take n l) (sym (add-one i))) j) x none)))

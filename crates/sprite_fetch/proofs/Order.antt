@@ -17,13 +17,13 @@ use Rattle.oam.specs.declared.Sprite.{Sprite}
 use Rattle.oam.specs.Sprites.{blankSprite}
 use Rattle.sprite_row.specs.SpriteRow.{x9, sizeIn, counts}
 use Rattle.sprite_tile.specs.declared.View.{View}
-use Rattle.sprite_tile.specs.declared.Slice.{Slice}
-use Rattle.sprite_tile.specs.Slices.{Sound}
+use Rattle.sprite_tile.specs.declared.PlacedRow.{PlacedRow}
+use Rattle.sprite_tile.specs.Placed.{PlacedSound}
 use Rattle.choice.specs.declared.VisibleSprite.{VisibleSprite}
 use Rattle.choice.specs.Choice.{blankPlace}
 use Rattle.sprite_fetch.specs.declared.Fetched.{Fetched}
 use Rattle.sprite_fetch.specs.Fetch.{Tile, tile, countingPlaces, countingTiles, fetchOrder}
-use Rattle.sprite_fetch.specs.Walk.{sliceIn, blankSlice, AllSound, spritesOf, fetchedList}
+use Rattle.sprite_fetch.specs.Walk.{placedIn, blankRow, AllSound, spritesOf, fetchedList}
 
 -- the counting tiles among a sprite's first n
 abbrev placesTo : Sprite → ℕ → List ℕ
@@ -106,80 +106,80 @@ module _ (objsel : ℕ) where
 
 module _ (view : View) where
   -- the loops' variables hold the first 34 of the tiles l
-  pub record SoFar (l : List Tile) (slices : List Slice) (count : ℕ) : Type 0 where
-    pub is-slices : slices ≡ places 34 blankSlice (map (sliceIn view) (take 34 l))
+  pub record SoFar (l : List Tile) (rows : List PlacedRow) (count : ℕ) : Type 0 where
+    pub is-rows : rows ≡ places 34 blankRow (map (placedIn view) (take 34 l))
     pub is-count : count ≡ length (take 34 l)
     pub few : count ≤ 34
-    pub sound : AllSound count slices
+    pub sound : AllSound count rows
 
-  pub so-far-none : {l : List Tile} {p : Slice} → l ≡ [] → p ≡ blankSlice → SoFar l (replicate 34 p) 0
+  pub so-far-none : {l : List Tile} {p : PlacedRow} → l ≡ [] → p ≡ blankRow → SoFar l (replicate 34 p) 0
   so-far-none e d =
       rw e
-      (record { is-slices = ap (replicate 34) d ∙ places-none 34 blankSlice; is-count = refl; few = omega arith; sound = λ i h. absurd (omega arith) })
+      (record { is-rows = ap (replicate 34) d ∙ places-none 34 blankRow; is-count = refl; few = omega arith; sound = λ i h. absurd (omega arith) })
 
-  pub so-far-at : {l m : List Tile} {slices : List Slice} {count : ℕ} → l ≡ m → SoFar l slices count → SoFar m slices count
-  so-far-at {slices = slices} {count} e s = subst (λ (l : List Tile). SoFar l slices count) e s
+  pub so-far-at : {l m : List Tile} {rows : List PlacedRow} {count : ℕ} → l ≡ m → SoFar l rows count → SoFar m rows count
+  so-far-at {rows = rows} {count} e s = subst (λ (l : List Tile). SoFar l rows count) e s
 
   -- the slot that is set is sound, and so are those before it
-  sound-more : (slices : List Slice) (count : ℕ) (a : Slice) → AllSound count slices → Sound a → count < length slices →
-      AllSound (count + 1) (set slices count a)
-  sound-more slices count a h s b i k =
+  sound-more : (rows : List PlacedRow) (count : ℕ) (a : PlacedRow) → AllSound count rows → PlacedSound a → count < length rows →
+      AllSound (count + 1) (set rows count a)
+  sound-more rows count a h s b i k =
       ⊎-elim
-      (λ e. subst (λ (n : ℕ). Sound (getD (set slices count a) n blankSlice)) (sym e) (subst Sound (sym (getD-set-same slices count a blankSlice b)) s))
-      (λ l. let d : i ≡ count → ⊥ = λ e. absurd (omega arith) in subst Sound (sym (getD-set-other slices count i a blankSlice d)) (h i l))
+      (λ e. subst (λ (n : ℕ). PlacedSound (getD (set rows count a) n blankRow)) (sym e) (subst PlacedSound (sym (getD-set-same rows count a blankRow b)) s))
+      (λ l. let d : i ≡ count → ⊥ = λ e. absurd (omega arith) in subst PlacedSound (sym (getD-set-other rows count i a blankRow d)) (h i l))
       (eq-or-lt-of-le {n = i} {m = count} (omega arith))
 
   -- one more tile
-  pub so-far-more : {l : List Tile} {slices : List Slice} {count : ℕ} {a : Slice} (p : Tile) → SoFar l slices count →
-      (count ≡ 34 → ⊥) → a ≡ sliceIn view p → Sound a → SoFar (l ++ p ∷ []) (set slices count a) (count + 1)
-  so-far-more {l} {slices} {count} {a} p s n e h =
+  pub so-far-more : {l : List Tile} {rows : List PlacedRow} {count : ℕ} {a : PlacedRow} (p : Tile) → SoFar l rows count →
+      (count ≡ 34 → ⊥) → a ≡ placedIn view p → PlacedSound a → SoFar (l ++ p ∷ []) (set rows count a) (count + 1)
+  so-far-more {l} {rows} {count} {a} p s n e h =
       let c : count < 34 = omega (arith, n, s .few) in
       let short : length l < 34 = omega (arith, s .is-count, length-take 34 l) in
       let is : take 34 l ≡ l = take-all 34 l (omega arith) in
-      let m = map (sliceIn view) l in
-      let long : length m ≡ length l = length-map l (sliceIn view) in
+      let m = map (placedIn view) l in
+      let long : length m ≡ length l = length-map l (placedIn view) in
       let at : count ≡ length m = omega (arith, s .is-count, length-take 34 l) in
-      let held : slices ≡ places 34 blankSlice m = s .is-slices ∙ (λ i. places 34 blankSlice (map (sliceIn view) (is i))) in
+      let held : rows ≡ places 34 blankRow m = s .is-rows ∙ (λ i. places 34 blankRow (map (placedIn view) (is i))) in
       let more : length (l ++ p ∷ []) ≡ length l + 1 = length-append l (p ∷ []) in
       let all : take 34 (l ++ p ∷ []) ≡ l ++ p ∷ [] = take-all 34 (l ++ p ∷ []) (omega arith) in
-      let room : count < length slices = rw (held, length-places 34 blankSlice m (omega arith)) c in
+      let room : count < length rows = rw (held, length-places 34 blankRow m (omega arith)) c in
       record {
-        is-slices =
+        is-rows =
             (λ i. set (held i) (at i) (e i))
-            ∙ places-more 34 blankSlice m (sliceIn view p) (omega arith)
-            ∙ (λ i. places 34 blankSlice (sym (map-append (sliceIn view) l (p ∷ [])) i))
-            ∙ (λ i. places 34 blankSlice (map (sliceIn view) (sym all i)));
+            ∙ places-more 34 blankRow m (placedIn view p) (omega arith)
+            ∙ (λ i. places 34 blankRow (sym (map-append (placedIn view) l (p ∷ [])) i))
+            ∙ (λ i. places 34 blankRow (map (placedIn view) (sym all i)));
         is-count = rw all (omega arith);
         few = omega arith;
-        sound = sound-more slices count a (s .sound) h room;
+        sound = sound-more rows count a (s .sound) h room;
       }
 
   -- once there are 34, nothing after them changes them
-  pub so-far-full : {l : List Tile} {slices : List Slice} {count : ℕ} (m : List Tile) → SoFar l slices count → count ≡ 34 →
-      SoFar (l ++ m) slices count
+  pub so-far-full : {l : List Tile} {rows : List PlacedRow} {count : ℕ} (m : List Tile) → SoFar l rows count → count ≡ 34 →
+      SoFar (l ++ m) rows count
   so-far-full {l} m s e =
       let h : 34 ≤ length l = omega (arith, s .is-count, length-take 34 l) in
       let same : take 34 (l ++ m) ≡ take 34 l = take-append-le 34 l m h in
       record {
-        is-slices = s .is-slices ∙ (λ i. places 34 blankSlice (map (sliceIn view) (sym same i)));
+        is-rows = s .is-rows ∙ (λ i. places 34 blankRow (map (placedIn view) (sym same i)));
         is-count = s .is-count ∙ (λ i. length (sym same i));
         few = s .few;
         sound = s .sound;
       }
 
   -- so a full fetch is the whole fetch
-  pub full : {slices : List Slice} {count : ℕ} (objsel : ℕ) (l : List Sprite) (k t : ℕ) → k < length l →
+  pub full : {rows : List PlacedRow} {count : ℕ} (objsel : ℕ) (l : List Sprite) (k t : ℕ) → k < length l →
       t < sizeIn objsel (getD l k blankSprite) .width / 8 →
-      SoFar (fetchOrder objsel (drop (k + 1) l) ++ tilesTo (getD l k blankSprite) t) slices count → count ≡ 34 →
-      SoFar (fetchOrder objsel l) slices count
+      SoFar (fetchOrder objsel (drop (k + 1) l) ++ tilesTo (getD l k blankSprite) t) rows count → count ≡ 34 →
+      SoFar (fetchOrder objsel l) rows count
   full objsel l k t h b s e = so-far-at (all-order objsel l k t h b) (so-far-full (rest objsel l k t) s e)
 
   -- what the fetch hands back
-  pub built : {l : List Tile} {slices : List Slice} {count : ℕ} → SoFar l slices count →
-      _≡_ {A = Fetched} (record { slices = slices; count = count }) (fetchedList view (take 34 l))
-      × ((count ≤ 34) × AllSound count slices)
+  pub built : {l : List Tile} {rows : List PlacedRow} {count : ℕ} → SoFar l rows count →
+      _≡_ {A = Fetched} (record { rows = rows; count = count }) (fetchedList view (take 34 l))
+      × ((count ≤ 34) × AllSound count rows)
   unfolding fetchedList
-  built s = ((λ i. record { slices = s .is-slices i; count = s .is-count i }), (s .few, s .sound))
+  built s = ((λ i. record { rows = s .is-rows i; count = s .is-count i }), (s .few, s .sound))
 
 -- the sprites of the first n places
 module _ (n : ℕ) (l : List VisibleSprite) where

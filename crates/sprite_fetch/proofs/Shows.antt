@@ -22,13 +22,13 @@ use Rattle.sprite_row.specs.SpriteRow.{x9, sizeIn, tileAt, counts}
 use Rattle.line.specs.declared.Candidate.{Candidate}
 use Rattle.line.specs.Pixels.{none}
 use Rattle.sprite_tile.specs.declared.View.{View}
-use Rattle.sprite_tile.specs.Tile.{lineIn, indexAt, pixelIn}
-use Rattle.sprite_tile.specs.Slices.{sliceOf}
-use Rattle.sprite_tile.proofs.Laws.{slice-index}
+use Rattle.sprite_tile.specs.Tile.{lineIn, spriteIndexAt, pixelIn}
+use Rattle.sprite_tile.specs.Placed.{placedOf}
+use Rattle.sprite_tile.proofs.Laws.{placed-index}
 use Rattle.sprite_fetch.specs.declared.Fetched.{Fetched}
 use Rattle.sprite_fetch.specs.Fetch.{Tile, tile, countingPlaces, fetchOrder, fetched, fetchedOf, among, across, over, fetchedPixel, linePixel}
 use Rattle.sprite_fetch.specs.Turns.{leaves, own-places, in-turn}
-use Rattle.sprite_fetch.specs.Walk.{sliceIn, blankSlice, fetchedList, offsetIn, drawnTo, drawnAll, drawnLine}
+use Rattle.sprite_fetch.specs.Walk.{placedIn, blankRow, fetchedList, offsetIn, drawnTo, drawnAll, drawnLine}
 use Rattle.sprite_fetch.proofs.Draws.{drawn-append}
 
 -- A column less the left edge of a sprite, and less that of a tile n further on: three cases, by which of the sums pass 512.
@@ -108,9 +108,9 @@ module _ (v g : List ℕ) (view : View) (byte : view .objsel < 256) (x : ℕ) (h
 
     -- one tile, drawn
     tile-drawn : (t : ℕ) → t < width / 8 → (q : Candidate) →
-        drawnTo v g (sliceIn view (tile s t)) 8 x q
+        drawnTo v g (placedIn view (tile s t)) 8 x q
         ≡ over (cond (eqb t (across s x / 8)) (pixelIn v g view s (across s x)) none) q
-    unfolding drawnTo pixelIn sliceOf
+    unfolding drawnTo pixelIn placedOf
     tile-drawn t b q = by-cases (eqb t (across s x / 8)) refl
       where
         low : t < 8
@@ -120,30 +120,30 @@ module _ (v g : List ℕ) (view : View) (byte : view .objsel < 256) (x : ℕ) (h
         offset = by-distance (x9 s) (t * 8) x nine (omega (arith, low)) h
 
         by-cases : (u : Bool) → eqb t (across s x / 8) ≡ u →
-            drawnTo v g (sliceIn view (tile s t)) 8 x q
+            drawnTo v g (placedIn view (tile s t)) 8 x q
             ≡ over (cond u (pixelIn v g view s (across s x)) none) q
         by-cases true e =
             let d : t ≡ across s x / 8 = eqb-true t (across s x / 8) e in
-            let k : offsetIn (sliceIn view (tile s t)) x ≡ across s x % 8 = offset ∙ within t (across s x) low (omega arith) d in
+            let k : offsetIn (placedIn view (tile s t)) x ≡ across s x % 8 = offset ∙ within t (across s x) low (omega arith) d in
             let p : t * 8 + across s x % 8 ≡ across s x = omega arith in
             let line = lineIn view s width in
             let i =
-            slice-index width t (across s x % 8) (fair .whole) b (omega arith) v s line
-            ∙ (λ j. indexAt v s (mirrored (p j) width (s .«flip_x»)) line) in
+            placed-index width t (across s x % 8) (fair .whole) b (omega arith) v s line
+            ∙ (λ j. spriteIndexAt v s (mirrored (p j) width (s .«flip_x»)) line) in
             rw (k, lt-ltb (across s x % 8) 8 (omega arith), i)
         by-cases false e =
             let b : 8 ≤ (across s x + 512 - t * 8) % 512 = beyond t (across s x) low (omega arith) (eqb-false t (across s x / 8) e) in
-            let d : 8 ≤ offsetIn (sliceIn view (tile s t)) x = rw offset b in
-            rw (le-ltb (offsetIn (sliceIn view (tile s t)) x) 8 d)
+            let d : 8 ≤ offsetIn (placedIn view (tile s t)) x = rw offset b in
+            rw (le-ltb (offsetIn (placedIn view (tile s t)) x) 8 d)
 
     -- several of a sprite's tiles
     tiles-drawn : (ts : List ℕ) → Each (λ t. t < width / 8) ts → (q : Candidate) →
-        drawnAll v g (map (sliceIn view) (map (tile s) ts)) x q ≡ over (fetchedPixel v g view s (map (tile s) ts) x) q
+        drawnAll v g (map (placedIn view) (map (tile s) ts)) x q ≡ over (fetchedPixel v g view s (map (tile s) ts) x) q
     unfolding drawnAll fetchedPixel among
     tiles-drawn [] b q = refl
     tiles-drawn (t ∷ ts) b q =
         let p = pixelIn v g view s (across s x) in
-        tiles-drawn ts (b .1) (drawnTo v g (sliceIn view (tile s t)) 8 x q)
+        tiles-drawn ts (b .1) (drawnTo v g (placedIn view (tile s t)) 8 x q)
         ∙ ((λ i. over (fetchedPixel v g view s (map (tile s) ts) x) (tile-drawn t (b .0) q i))
         ∙ again (eqb t (across s x / 8)) (among (map (tile s) ts) (across s x / 8)) p q)
 
@@ -154,30 +154,30 @@ module _ (v g : List ℕ) (view : View) (byte : view .objsel < 256) (x : ℕ) (h
         (each-tab (λ t. t < width / 8) (width / 8) (λ t. t) (λ t b. b))
 
   pub shows : (limit : ℕ) (l : List Sprite) →
-      drawnAll v g (map (sliceIn view) (fetched limit (view .objsel) l)) x none ≡ linePixel v g view limit l x
+      drawnAll v g (map (placedIn view) (fetched limit (view .objsel) l)) x none ≡ linePixel v g view limit l x
   unfolding linePixel fetchOrder drawnAll
-  shows limit [] = λ i. drawnAll v g (map (sliceIn view) (take-nil {A = Tile} limit i)) x none
+  shows limit [] = λ i. drawnAll v g (map (placedIn view) (take-nil {A = Tile} limit i)) x none
   shows limit (s ∷ later) =
       let o = view .objsel in
       let ts = take (leaves limit o s later) (countingPlaces o s) in
       let own = own-places limit o s later in
-      (λ i. drawnAll v g (map (sliceIn view) (in-turn limit o s later i)) x none)
-      ∙ ((λ i. drawnAll v g (map-append (sliceIn view) (fetched limit o later) (fetchedOf limit o s later) i) x none)
-      ∙ (drawn-append v g (map (sliceIn view) (fetched limit o later)) (map (sliceIn view) (fetchedOf limit o s later)) x none
-      ∙ ((λ i. drawnAll v g (map (sliceIn view) (own i)) x (shows limit later i))
+      (λ i. drawnAll v g (map (placedIn view) (in-turn limit o s later i)) x none)
+      ∙ ((λ i. drawnAll v g (map-append (placedIn view) (fetched limit o later) (fetchedOf limit o s later) i) x none)
+      ∙ (drawn-append v g (map (placedIn view) (fetched limit o later)) (map (placedIn view) (fetchedOf limit o s later)) x none
+      ∙ ((λ i. drawnAll v g (map (placedIn view) (own i)) x (shows limit later i))
       ∙ (tiles-drawn s ts (each-take (λ t. t < width s / 8) (leaves limit o s later) (countingPlaces o s) (in-width s)) (linePixel v g view limit later x)
       ∙ (λ i. over (fetchedPixel v g view s (sym own i) x) (linePixel v g view limit later x))))))
 
 -- so the line that is drawn of the fetched tiles is the sprite line
 module _ (v g : List ℕ) (view : View) (byte : view .objsel < 256) where
-  listed : (l : List Tile) → take (length l) (places 34 blankSlice (map (sliceIn view) l)) ≡ map (sliceIn view) l
+  listed : (l : List Tile) → take (length l) (places 34 blankRow (map (placedIn view) l)) ≡ map (placedIn view) l
   listed l =
-      ap (λ (n : ℕ). take n (places 34 blankSlice (map (sliceIn view) l))) (sym (length-map l (sliceIn view)))
-      ∙ take-places 34 blankSlice (map (sliceIn view) l)
+      ap (λ (n : ℕ). take n (places 34 blankRow (map (placedIn view) l))) (sym (length-map l (placedIn view)))
+      ∙ take-places 34 blankRow (map (placedIn view) l)
 
   pub drawn-line : {f : Fetched} (l : List Sprite) → f ≡ fetchedList view (fetched 34 (view .objsel) l) →
-      drawnLine v g (take (f .count) (f .slices)) ≡ tab 256 (linePixel v g view 34 l)
+      drawnLine v g (take (f .count) (f .rows)) ≡ tab 256 (linePixel v g view 34 l)
   unfolding fetchedList
   drawn-line l e =
-      (λ i. drawnLine v g (take (e i .count) (e i .slices)))
+      (λ i. drawnLine v g (take (e i .count) (e i .rows)))
       ∙ ((λ i. drawnLine v g (listed (fetched 34 (view .objsel) l) i)) ∙ tab-ext 256 _ _ (λ x h. shows v g view byte x h 34 l))

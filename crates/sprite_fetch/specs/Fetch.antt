@@ -2,7 +2,7 @@
 use Prim.Native.Nat.{ℕ, _+_, _-_, _/_, _%_}
 use mathlib.Core.Bool.{Bool, false, cond, _||_}
 use mathlib.Core.List.{List, [], _∷_, _++_, map}
-use lib.ListN.{length, take, drop}
+use lib.ListN.{length, take}
 use lib.Dec.{eqb}
 use Rattle.lists.specs.Tab.{tab}
 use Rattle.lists.specs.Keep.{keep}
@@ -37,9 +37,10 @@ fetchOrder objsel (s ∷ later) = fetchOrder objsel later ++ countingTiles objse
 abbrev pub fetched : ℕ → ℕ → List Sprite → List Tile
 fetched limit objsel chosen = take limit (fetchOrder objsel chosen)
 
--- of these, the tiles of a sprite after which `later` were chosen: what it adds to theirs
+-- of these, the tiles of a sprite after which `later` were chosen: the first of its counting tiles, as many as theirs leave room
+-- for
 unfoldable pub fetchedOf : ℕ → ℕ → Sprite → List Sprite → List Tile
-fetchedOf limit objsel s later = drop (length (fetched limit objsel later)) (fetched limit objsel (s ∷ later))
+fetchedOf limit objsel s later = take (limit - length (fetchOrder objsel later)) (countingTiles objsel s)
 
 -- is one of these tiles at place t?
 unfoldable pub among : List Tile → ℕ → Bool

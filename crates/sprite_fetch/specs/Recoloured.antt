@@ -14,17 +14,17 @@ use Rattle.line.specs.declared.Priority.{Priority}
 use Rattle.line.specs.Pixels.{none, spritePriority}
 use Rattle.line.specs.Recoloured.{recoloured, one-changed, none-recoloured, there-recoloured}
 use Rattle.sprite_tile.specs.declared.View.{View}
-use Rattle.sprite_tile.specs.Tile.{lineIn, indexAt, coloursOf, pixelOf, pixelIn}
+use Rattle.sprite_tile.specs.Tile.{lineIn, spriteIndexAt, spriteColours, spritePixelOf, pixelIn}
 use Rattle.sprite_fetch.specs.Fetch.{Tile, among, across, over, fetchedOf, fetchedPixel, linePixel}
 
 -- a rule that keeps colour 0
 module _ (f : ℕ → ℕ) (black : f 0 ≡ 0) (v g : List ℕ) (view : View) where
   -- a sprite's colour of index i
-  colour-changed : (n i : ℕ) → getD (coloursOf (map f g) n) i 0 ≡ f (getD (coloursOf g n) i 0)
-  colour-changed n i = (λ j. getD (coloursOf (map f g) n) i (sym black j)) ∙ part-map f 16 (128 + 16 * n) g i 0
+  colour-changed : (n i : ℕ) → getD (spriteColours (map f g) n) i 0 ≡ f (getD (spriteColours g n) i 0)
+  colour-changed n i = (λ j. getD (spriteColours (map f g) n) i (sym black j)) ∙ part-map f 16 (128 + 16 * n) g i 0
 
   -- its pixel of index i
-  index-recoloured : (n : ℕ) (z : Priority) (i : ℕ) → pixelOf (coloursOf (map f g) n) n z i ≡ recoloured f (pixelOf (coloursOf g n) n z i)
+  index-recoloured : (n : ℕ) (z : Priority) (i : ℕ) → spritePixelOf (spriteColours (map f g) n) n z i ≡ recoloured f (spritePixelOf (spriteColours g n) n z i)
   index-recoloured n z i =
       λ j. record {
         opaque = not (eqb i 0);
@@ -36,7 +36,7 @@ module _ (f : ℕ → ℕ) (black : f 0 ≡ 0) (v g : List ℕ) (view : View) wh
   unfolding pixelIn
   place-recoloured s px =
       let w = sizeIn (view .objsel) s .width in
-      index-recoloured (s .palette) (spritePriority (s .priority)) (indexAt v s (mirrored px w (s .«flip_x»)) (lineIn view s w))
+      index-recoloured (s .palette) (spritePriority (s .priority)) (spriteIndexAt v s (mirrored px w (s .«flip_x»)) (lineIn view s w))
 
   -- what of it is fetched
   fetched-recoloured : (s : Sprite) (tiles : List Tile) (x : ℕ) →

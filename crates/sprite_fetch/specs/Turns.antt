@@ -14,18 +14,18 @@ module _ (limit objsel : ℕ) (s : Sprite) (later : List Sprite) where
   leaves = limit - length (fetchOrder objsel later)
 
   -- the fetched tiles are those of the sprites that were chosen later, and then its own
-  turn : fetched limit objsel (s ∷ later) ≡ fetched limit objsel later ++ take leaves (countingTiles objsel s)
-  unfolding fetchOrder
-  turn = take-append limit (fetchOrder objsel later) (countingTiles objsel s)
-
-  own : fetchedOf limit objsel s later ≡ take leaves (countingTiles objsel s)
-  unfolding fetchedOf
-  own =
-      ap (drop (length (fetched limit objsel later))) turn
-      ∙ drop-append-seam (fetched limit objsel later) (take leaves (countingTiles objsel s))
-
-  pub own-places : fetchedOf limit objsel s later ≡ map (tile s) (take leaves (countingPlaces objsel s))
-  own-places = own ∙ take-map (tile s) leaves (countingPlaces objsel s)
-
   pub in-turn : fetched limit objsel (s ∷ later) ≡ fetched limit objsel later ++ fetchedOf limit objsel s later
-  in-turn = turn ∙ (λ i. fetched limit objsel later ++ sym own i)
+  unfolding fetchOrder fetchedOf
+  in-turn = take-append limit (fetchOrder objsel later) (countingTiles objsel s)
+
+  -- its own, by their places
+  pub own-places : fetchedOf limit objsel s later ≡ map (tile s) (take leaves (countingPlaces objsel s))
+  unfolding fetchedOf
+  own-places = take-map (tile s) leaves (countingPlaces objsel s)
+
+  -- so its own are what it adds to theirs
+  pub own-added : fetchedOf limit objsel s later ≡ drop (length (fetched limit objsel later)) (fetched limit objsel (s ∷ later))
+  own-added =
+      sym
+      (ap (drop (length (fetched limit objsel later))) in-turn
+      ∙ drop-append-seam (fetched limit objsel later) (fetchedOf limit objsel s later))

@@ -11,27 +11,29 @@ use Rattle.oam.specs.declared.Sprite.{Sprite}
 use Rattle.sprite_row.specs.SpriteRow.{sizeIn}
 use Rattle.line.specs.declared.Candidate.{Candidate}
 use Rattle.line.specs.Pixels.{priority, none}
+use Rattle.tiles.specs.declared.BitDepth.the-variants.{Four}
+use Rattle.tiles_row.specs.Rows.{rowIndex}
 use Rattle.sprite_tile.specs.declared.View.{View}
-use Rattle.sprite_tile.specs.declared.Slice.{Slice}
-use Rattle.sprite_tile.specs.Tile.{lineIn, coloursOf, pixelOf}
-use Rattle.sprite_tile.specs.Slices.{Sound, sliceOf, sliceIndex}
+use Rattle.sprite_tile.specs.declared.PlacedRow.{PlacedRow}
+use Rattle.sprite_tile.specs.Tile.{lineIn, spriteColours, spritePixelOf}
+use Rattle.sprite_tile.specs.Placed.{PlacedSound, placedOf}
 use Rattle.choice.specs.declared.VisibleSprite.{VisibleSprite}
 use Rattle.choice.specs.Choice.{blankPlace}
 use Rattle.sprite_fetch.specs.declared.Fetched.{Fetched}
 use Rattle.sprite_fetch.specs.Fetch.{Tile}
 
 -- a tile as the row shows it
-abbrev pub sliceIn : View → Tile → Slice
-sliceIn view p =
-    sliceOf (p .sprite) (sizeIn (view .objsel) (p .sprite) .width) (lineIn view (p .sprite) (sizeIn (view .objsel) (p .sprite) .width)) (p .place)
+abbrev pub placedIn : View → Tile → PlacedRow
+placedIn view p =
+    placedOf (p .sprite) (sizeIn (view .objsel) (p .sprite) .width) (lineIn view (p .sprite) (sizeIn (view .objsel) (p .sprite) .width)) (p .place)
 
 -- what stands in a place that holds no tile
-abbrev pub blankSlice : Slice
-blankSlice = record { «tile_x» = 0; base = 0; row = 0; «flip_x» = false; palette = 0; z = priority 0 }
+abbrev pub blankRow : PlacedRow
+blankRow = record { «tile_x» = 0; tile = record { base = 0; row = 0; «flip_x» = false; palette = 0; z = priority 0 } }
 
 -- each of the first n has its fields in their ranges
-abbrev pub AllSound : ℕ → List Slice → Type 0
-AllSound n l = (i : ℕ) → i < n → Sound (getD l i blankSlice)
+abbrev pub AllSound : ℕ → List PlacedRow → Type 0
+AllSound n l = (i : ℕ) → i < n → PlacedSound (getD l i blankRow)
 
 -- and each of the first n sprites its palette
 abbrev pub AllFair : ℕ → List VisibleSprite → Type 0
@@ -43,29 +45,29 @@ spritesOf n l = map (λ (p : VisibleSprite). p .sprite) (take n l)
 
 -- a list of tiles in its 34 places
 unfoldable pub fetchedList : View → List Tile → Fetched
-fetchedList view l = record { slices = places 34 blankSlice (map (sliceIn view) l); count = length l }
+fetchedList view l = record { rows = places 34 blankRow (map (placedIn view) l); count = length l }
 
 -- how far right of a tile's left edge column x stands, modulo 512
-abbrev pub offsetIn : Slice → ℕ → ℕ
+abbrev pub offsetIn : PlacedRow → ℕ → ℕ
 offsetIn s x = (x + 512 - s .«tile_x») % 512
 
 module _ (v g : List ℕ) where
   -- does column x hold one of the tile's first k pixels, an opaque one?
-  abbrev pub coversTo : Slice → ℕ → ℕ → Bool
-  coversTo s k x = ltb (offsetIn s x) k && not (eqb (sliceIndex v s (offsetIn s x)) 0)
+  abbrev pub coversTo : PlacedRow → ℕ → ℕ → Bool
+  coversTo s k x = ltb (offsetIn s x) k && not (eqb (rowIndex v Four (s .tile) (offsetIn s x)) 0)
 
   -- what column x holds after the tile's first k pixels are drawn over h
-  unfoldable pub drawnTo : Slice → ℕ → ℕ → Candidate → Candidate
+  unfoldable pub drawnTo : PlacedRow → ℕ → ℕ → Candidate → Candidate
   drawnTo s k x h =
       cond (coversTo s k x)
-      (pixelOf (coloursOf g (s .palette)) (s .palette) (s .z) (sliceIndex v s (offsetIn s x)))
+      (spritePixelOf (spriteColours g (s .tile .palette)) (s .tile .palette) (s .tile .z) (rowIndex v Four (s .tile) (offsetIn s x)))
       h
 
   -- after tiles are drawn, one over the other
-  unfoldable pub drawnAll : List Slice → ℕ → Candidate → Candidate
+  unfoldable pub drawnAll : List PlacedRow → ℕ → Candidate → Candidate
   drawnAll [] x h = h
   drawnAll (s ∷ l) x h = drawnAll l x (drawnTo s 8 x h)
 
   -- the line that they leave
-  abbrev pub drawnLine : List Slice → List Candidate
+  abbrev pub drawnLine : List PlacedRow → List Candidate
   drawnLine l = tab 256 (λ x. drawnAll l x none)

@@ -7,41 +7,43 @@ use line::Priority;
 use oam::inner::nine_bits;
 use oam::inner::sprite_size;
 use sprite_row::inner::tile_counts;
-use sprite_tile::Slice;
+use sprite_tile::PlacedRow;
 use sprite_tile::View;
-use sprite_tile::inner::index;
 use sprite_tile::inner::line_in;
 use sprite_tile::inner::palette;
 use sprite_tile::inner::pixel;
-use sprite_tile::inner::slice;
+use sprite_tile::inner::placed;
+use tiles::BitDepth;
+use tiles_row::TileRow;
+use tiles_row::inner::index;
 ghost use mathlib.Core.Path.{_≡_};
 ghost use Prim.Native.Nat.{_≤_, _<_};
 ghost use lib.ListN.{length, take};
 ghost use Rattle.sprite_fetch.specs.Fetch.{fetched};
-ghost use Rattle.sprite_fetch.specs.Walk.{blankSlice, AllSound, AllFair, fetchedList, spritesOf, drawnLine};
+ghost use Rattle.sprite_fetch.specs.Walk.{blankRow, AllSound, AllFair, fetchedList, spritesOf, drawnLine};
 
 // What stands in a place that holds no tile.
-fn blank() -> Slice
-    ensures { λ r. ⌜ r ≡ blankSlice ⌝ }
+fn blank() -> PlacedRow
+    ensures { λ r. ⌜ r ≡ blankRow ⌝ }
 {
-    Slice {
-        tile_x: 0,
+    let tile = TileRow {
         base: 0,
         row: 0,
         flip_x: false,
         palette: 0,
         z: Priority::BACKDROP,
-    }
+    };
+    PlacedRow { tile_x: 0, tile }
 }
 
 // The fetch: the chosen sprites from the last to the first, the counting tiles of each from left to
 // right, up to the 34th.
 pub fn fetch(chosen: Chosen, view: View) -> Fetched
     requires { ⌜ (chosen .count ≤ 32) × AllFair (chosen .count) (chosen .sprites) ⌝ }
-    ensures { λ r. ⌜ (r ≡ fetchedList view (fetched 34 (view .objsel) (spritesOf (chosen .count) (chosen .sprites)))) × ((r .count ≤ 34) × AllSound (r .count) (r .slices)) ⌝ }
+    ensures { λ r. ⌜ (r ≡ fetchedList view (fetched 34 (view .objsel) (spritesOf (chosen .count) (chosen .sprites)))) × ((r .count ≤ 34) × AllSound (r .count) (r .rows)) ⌝ }
 {
     let none = blank();
-    let mut slices = [none; 34];
+    let mut rows = [none; 34];
     let mut count: usize = 0;
     let mut k = chosen.count;
     while 0 < k {
@@ -57,37 +59,38 @@ pub fn fetch(chosen: Chosen, view: View) -> Fetched
                 continue;
             }
             if count == MAX_TILES {
-                return Fetched { slices, count };
+                return Fetched { rows, count };
             }
-            slices[count] = slice(s, size, line, t);
+            rows[count] = placed(s, size, line, t);
             count += 1;
         }
     }
-    Fetched { slices, count }
+    Fetched { rows, count }
 }
 
 // The sprite line: the tiles are drawn one over the other in the order of the fetch, so that the
 // first chosen sprite stays.
 pub fn draw(f: Fetched, vram: &[u16], cgram: &[u16]) -> [Candidate; 256]
-    requires { ⌜ (length (now cgram) ≡ 256) × ((f .count ≤ 34) × AllSound (f .count) (f .slices)) ⌝ }
-    ensures { λ r. ⌜ r ≡ drawnLine (now (vram .entry)) (now (cgram .entry)) (take (f .count) (f .slices)) ⌝ }
+    requires { ⌜ (length (now cgram) ≡ 256) × ((f .count ≤ 34) × AllSound (f .count) (f .rows)) ⌝ }
+    ensures { λ r. ⌜ r ≡ drawnLine (now (vram .entry)) (now (cgram .entry)) (take (f .count) (f .rows)) ⌝ }
 {
     let none = Candidate::none();
     let mut line = [none; 256];
     for i in 0..f.count {
-        let s = f.slices[i];
-        let z = s.z;
-        let colors = palette(cgram, s.palette);
+        let s = f.rows[i];
+        let tile = s.tile;
+        let z = tile.z;
+        let colors = palette(cgram, tile.palette);
         for k in 0..8 {
             let x = (s.tile_x as usize + k) % 512;
             if x >= 256 {
                 continue;
             }
-            let n = index(vram, s, k);
+            let n = index(vram, BitDepth::Four, tile, k);
             if n == 0 {
                 continue;
             }
-            line[x] = pixel(colors, s.palette, z, n);
+            line[x] = pixel(colors, tile.palette, z, n);
         }
     }
     line

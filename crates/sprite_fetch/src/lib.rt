@@ -2,10 +2,10 @@
 // sprites.rs.
 pub mod inner;
 
-use sprite_tile::Slice;
+use sprite_tile::PlacedRow;
 
 // The fetched tiles, in the order of the fetch: a list of 34 places with its length.
 pub struct Fetched {
-    pub slices: [Slice; 34],
+    pub rows: [PlacedRow; 34],
     pub count: usize,
 }

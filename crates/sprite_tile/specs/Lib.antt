@@ -1,2 +1,3 @@
 pub mod Tile
-pub mod Slices
+pub mod Lines
+pub mod Placed

@@ -17,9 +17,9 @@ use Rattle.sprite_tile.specs.declared.View.{View}
 abbrev pub doubled : Bool → ℕ → ℕ
 doubled interlace n = cond interlace (n * 2) n
 
--- a vertical flip mirrors it, within its square of w lines: that is the whole of a square sprite, and each half of a tall one
+-- a vertical flip mirrors it within its square of w lines: the square is the whole of a square sprite, and a half of a tall one
 abbrev pub flippedIn : ℕ → Bool → ℕ → ℕ
-flippedIn w flip n = cond flip (n - n % w + (w - 1 - n % w)) n
+flippedIn w flip n = n / w * w + mirrored (n % w) w flip
 
 -- then an odd field adds 1, or takes 1 if flipped
 abbrev pub moved : Bool → Bool → ℕ → ℕ
@@ -40,16 +40,16 @@ abbrev pub tileWord : Sprite → ℕ → ℕ → ℕ
 tileWord s column row = s .«chr_base» + tileNumber (s .tile) column row * 16
 
 -- the colour index of a sprite at a column and a line of its picture, which is 4bpp
-abbrev pub indexAt : List ℕ → Sprite → ℕ → ℕ → ℕ
-indexAt v s column line = indexOf v (tileWord s (column / 8) (line / 8)) (column % 8) (line % 8) 2
+abbrev pub spriteIndexAt : List ℕ → Sprite → ℕ → ℕ → ℕ
+spriteIndexAt v s column line = indexOf v (tileWord s (column / 8) (line / 8)) (column % 8) (line % 8) 2
 
 -- a palette's colours are a part of colour memory, 16 words from 128 + 16 x palette
-abbrev pub coloursOf : List ℕ → ℕ → List ℕ
-coloursOf g n = take 16 (drop (128 + 16 * n) g)
+abbrev pub spriteColours : List ℕ → ℕ → List ℕ
+spriteColours g n = take 16 (drop (128 + 16 * n) g)
 
 -- a sprite's pixel of index i, and whether it is opaque: index 0 is transparent, and palettes 4 and above have the math mark
-abbrev pub pixelOf : List ℕ → ℕ → Priority → ℕ → Candidate
-pixelOf colours palette z i = record {
+abbrev pub spritePixelOf : List ℕ → ℕ → Priority → ℕ → Candidate
+spritePixelOf colours palette z i = record {
   opaque = not (eqb i 0);
   pixel = record { color = getD colours i 0; z = z; layer = Obj; «obj_math» = leb 4 palette };
 }
@@ -58,7 +58,7 @@ pixelOf colours palette z i = record {
 -- width
 abbrev pub pixelOn : List ℕ → List ℕ → Sprite → ℕ → ℕ → ℕ → Candidate
 pixelOn v g s w line px =
-    pixelOf (coloursOf g (s .palette)) (s .palette) (spritePriority (s .priority)) (indexAt v s (mirrored px w (s .«flip_x»)) line)
+    spritePixelOf (spriteColours g (s .palette)) (s .palette) (spritePriority (s .priority)) (spriteIndexAt v s (mirrored px w (s .«flip_x»)) line)
 
 -- what it shows at place px of the row: the pixel of the line that the row shows
 unfoldable pub pixelIn : List ℕ → List ℕ → View → Sprite → ℕ → Candidate

@@ -1,5 +1,5 @@
 // What the crates above ask of a sprite's tiles.
-use crate::Slice;
+use crate::PlacedRow;
 use crate::View;
 use line::Candidate;
 use line::Layer;
@@ -9,20 +9,20 @@ use oam::Sprite;
 use oam::SpriteSize;
 use oam::inner::nine_bits;
 use sprite_row::inner::sprite_line;
-use tiles::inner::decode_4bpp;
 use tiles::inner::mirror;
+use tiles_row::TileRow;
 ghost use mathlib.Core.Path.{_≡_};
 ghost use mathlib.Core.Bool.{true};
 ghost use Prim.Native.Nat.{_*_, _/_, _<_, _≤_};
 ghost use lib.ListN.{length};
 ghost use Rattle.oam.specs.Sprites.{Sized};
-ghost use Rattle.sprite_tile.specs.Tile.{doubled, flippedIn, moved, lineIn, tileWord, coloursOf, pixelOf};
-ghost use Rattle.sprite_tile.specs.Slices.{Sound, sliceOf, sliceIndex};
+ghost use Rattle.sprite_tile.specs.Tile.{doubled, flippedIn, moved, lineIn, tileWord, spriteColours, spritePixelOf};
+ghost use Rattle.sprite_tile.specs.Placed.{PlacedSound, placedOf};
 
 // Where a sprite's colours begin in colour memory, and how many each of its palettes has.
-const OBJ_COLORS: usize = 128;
+pub const OBJ_COLORS: usize = 128;
 
-const PALETTE_COLORS: usize = 16;
+pub const PALETTE_COLORS: usize = 16;
 
 // Under interlace a row shows every other line.
 fn double(line: usize, obj_interlace: bool) -> usize
@@ -37,11 +37,7 @@ fn flip(line: usize, width: usize, flip_y: bool) -> usize
     requires { ⌜ (line < 512) × ((0 < width) × (width ≤ 64)) ⌝ }
     ensures { λ r. ⌜ (r ≡ flippedIn width «flip_y» line) × (r < 576) ⌝ }
 {
-    if flip_y {
-        line - line % width + (width - 1 - line % width)
-    } else {
-        line
-    }
+    line / width * width + mirror(line % width, width, flip_y)
 }
 
 // An odd field shows the other line of the two.
@@ -78,47 +74,42 @@ fn tile_word(s: Sprite, column: usize, row: usize) -> usize
 }
 
 // Tile t of a sprite, from the left, at a line of the sprite.
-pub fn slice(s: Sprite, size: SpriteSize, line: usize, t: usize) -> Slice
+pub fn placed(s: Sprite, size: SpriteSize, line: usize, t: usize) -> PlacedRow
     requires { ⌜ (Sized size × (s .palette < 8)) × ((line < 577) × (t < size .width / 8)) ⌝ }
-    ensures { λ r. ⌜ (r ≡ sliceOf s (size .width) line t) × Sound r ⌝ }
+    ensures { λ r. ⌜ (r ≡ placedOf s (size .width) line t) × PlacedSound r ⌝ }
 {
     let column = mirror(t, size.width as usize / 8, s.flip_x);
     let base = tile_word(s, column, line / 8);
     let x9 = nine_bits(s.x);
     let z = Priority::obj(s.priority);
-    Slice {
-        tile_x: (x9 + t as u16 * 8) % 512,
+    let tile = TileRow {
         base,
         row: (line % 8) as u8,
         flip_x: s.flip_x,
         palette: s.palette,
         z,
+    };
+    PlacedRow {
+        tile_x: (x9 + t as u16 * 8) % 512,
+        tile,
     }
 }
 
 // A palette's colours, a part of colour memory.
 pub fn palette<'a>(cgram: &'a [u16], n: u8) -> &'a [u16]
     requires { ⌜ (length (now cgram) ≡ 256) × (n < 8) ⌝ }
-    ensures { λ r. ⌜ now r ≡ coloursOf (now (cgram .entry)) n ⌝ }
+    ensures { λ r. ⌜ now r ≡ spriteColours (now (cgram .entry)) n ⌝ }
 {
     let start = OBJ_COLORS + PALETTE_COLORS * n as usize;
     let end = start + PALETTE_COLORS;
     &cgram[start..end]
 }
 
-// The colour index of pixel k of a tile's row, from the left.
-pub fn index(vram: &[u16], s: Slice, k: usize) -> u8
-    requires { ⌜ Sound s × (k < 8) ⌝ }
-    ensures { λ r. ⌜ (r ≡ sliceIndex (now (vram .entry)) s k) × (r < 16) ⌝ }
-{
-    decode_4bpp(vram, s.base, mirror(k, 8, s.flip_x), s.row as usize)
-}
-
 // The pixel of a colour index, of a sprite with this palette, its colours and this priority. Sprites
 // do color math only with palettes 4 to 7.
 pub fn pixel(colors: &[u16], palette: u8, z: Priority, index: u8) -> Candidate
     requires { ⌜ (length (now colors) ≡ 16) × (index < 16) ⌝ }
-    ensures { λ r. ⌜ r ≡ pixelOf (now (colors .entry)) palette z index ⌝ }
+    ensures { λ r. ⌜ r ≡ spritePixelOf (now (colors .entry)) palette z index ⌝ }
 {
     let at = index as usize;
     let color = colors[at];

@@ -2,7 +2,7 @@
 // pixels. Follows sprites.rs.
 pub mod inner;
 
-use line::Priority;
+use tiles_row::TileRow;
 
 // What a row's sprites are seen by: objsel, the row, sprite interlace, and whether the field is odd.
 // The row is a byte here: the calls above have refused a row above 223.
@@ -13,13 +13,8 @@ pub struct View {
     pub field: bool,
 }
 
-// The row of a tile that a row of the screen shows: the nine bits of its left edge, the word address
-// of the tile, its row, and what its sprite says of all eight pixels.
-pub struct Slice {
+// A row of a sprite's tile, and where it stands: the nine bits of its left edge.
+pub struct PlacedRow {
     pub tile_x: u16,
-    pub base: usize,
-    pub row: u8,
-    pub flip_x: bool,
-    pub palette: u8,
-    pub z: Priority,
+    pub tile: TileRow,
 }

@@ -16,6 +16,7 @@ use Rattle.sprite_row.specs.SpriteRow.{x9, sizeIn, lineOf, meetsRow, passes, pa
 use Rattle.line.specs.Pixels.{none}
 use Rattle.sprite_tile.specs.declared.View.{View}
 use Rattle.sprite_tile.specs.Tile.{lineIn, pixelOn, pixelIn}
+use Rattle.sprite_tile.specs.Lines.{not-flipped}
 use Rattle.sprite_fetch.specs.Fetch.{Tile, tile, countingPlaces, fetchOrder, fetched, fetchedOf, among, across, fetchedPixel}
 use Rattle.sprite_fetch.specs.Turns.{leaves, own-places}
 
@@ -138,7 +139,7 @@ sprite-edges =
       pixels-256 = λ v g view limit s later x a w h. beyond v g view limit s later x (rw (a, w) (omega arith));
       tiles-500 = λ s o a w. rw (a, w);
       line-2 = λ s a. rw a;
-      shown-2 = λ view s r p y h f. shows-line view s (rw (r, p, y, h)) (rw (r, p, y, f));
+      shown-2 = λ view s r p y h f. shows-line view s (rw (r, p, y, h)) (rw (r, p, y, f) (not-flipped _ 8));
       row-2 = λ s o a t. rw (a, t);
       row-10 = λ s o a t. rw (a, t);
       tall-0 = λ view s t l. shows-line view s (rw (t .size, t .plain, l)) (rw (t .size, t .plain, t .flipped, l));

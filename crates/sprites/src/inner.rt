@@ -5,6 +5,7 @@ use laying::Shown;
 use line::Candidate;
 use line::Lines;
 use registers::PPURegisters;
+use registers::constants::OBJ_LAYER;
 use registers::inner::bit;
 use sprite_fetch::Fetched;
 use sprite_fetch::inner::draw;
@@ -19,9 +20,6 @@ ghost use Rattle.laying.specs.Laying.{candidatesOf, layLines};
 ghost use Rattle.sprites.specs.Sprites.{viewOf, chosenSprites, spritePixel, spritesShown, emptyLine};
 ghost use Rattle.sprite_fetch.specs.Fetch.{fetched};
 ghost use Rattle.sprite_fetch.specs.Walk.{fetchedList, AllSound};
-
-// The sprites' bit of tm, ts, tmw and tsw.
-const OBJ: usize = 4;
 
 // A line with no pixel.
 pub fn empty() -> [Candidate; 256]
@@ -48,7 +46,7 @@ fn view(r: PPURegisters, y: usize) -> View
 // The fetched rows of tiles that row y shows: the sprites are chosen, and their tiles fetched.
 pub fn fetched_rows(oam: &[u8], r: PPURegisters, y: usize) -> Fetched
     requires { ⌜ (length (now oam) ≡ 544) × (y < 224) ⌝ }
-    ensures { λ f. ⌜ (f ≡ fetchedList (viewOf r y) (fetched 34 (r .objsel) (chosenSprites (now (oam .entry)) r y))) × ((f .count ≤ 34) × AllSound (f .count) (f .slices)) ⌝ }
+    ensures { λ f. ⌜ (f ≡ fetchedList (viewOf r y) (fetched 34 (r .objsel) (chosenSprites (now (oam .entry)) r y))) × ((f .count ≤ 34) × AllSound (f .count) (f .rows)) ⌝ }
 {
     let view = view(r, y);
     let chosen = choose(oam, view.row, view.objsel, r.oamadd, view.obj_interlace);
@@ -69,10 +67,10 @@ fn shown(r: PPURegisters) -> Shown
 {
     let window = windows::inner::obj_window(r);
     Shown {
-        to_main: bit(r.tm, OBJ),
-        to_sub: bit(r.ts, OBJ),
-        win_main: bit(r.tmw, OBJ),
-        win_sub: bit(r.tsw, OBJ),
+        to_main: bit(r.tm, OBJ_LAYER),
+        to_sub: bit(r.ts, OBJ_LAYER),
+        win_main: bit(r.tmw, OBJ_LAYER),
+        win_sub: bit(r.tsw, OBJ_LAYER),
         window,
     }
 }

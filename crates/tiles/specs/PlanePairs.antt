@@ -8,10 +8,10 @@ use native.Mathlib.Nat.{mul-le-mul-left, pow-suc}
 use lib.Dec.{lit<}
 use Rattle.tiles.specs.declared.BitDepth.{BitDepth}
 use Rattle.tiles.specs.declared.BitDepth.the-variants.{Two, Four, Eight}
-use Rattle.tiles.specs.Tiles.{planeWord, pairOf, pairAt, indexOf, pairsOf, tileWords}
+use Rattle.tiles.specs.Tiles.{planeWord, twoBits, pairAt, indexOf, pairsOf, tileWords}
 
 -- a pair is two bits
-pub pair-small : (w x : ℕ) → pairOf w x < 4
+pub pair-small : (w x : ℕ) → twoBits w x < 4
 pair-small w x = omega arith
 
 module _ (v : List ℕ) (base x y : ℕ) where

@@ -9,19 +9,19 @@ use Rattle.tiles.specs.declared.BitDepth.{BitDepth}
 use Rattle.tiles.specs.declared.BitDepth.the-variants.{Two, Four, Eight}
 
 -- a word of VRAM: each address is taken mod 32,768
-abbrev pub wordAt : List ℕ → ℕ → ℕ
-wordAt v address = getD v (address % 32768) 0
+abbrev pub vramWord : List ℕ → ℕ → ℕ
+vramWord v address = getD v (address % 32768) 0
 
 -- a tile's row in plane pair k: the pairs are 8 words apart
 abbrev pub planeWord : List ℕ → ℕ → ℕ → ℕ → ℕ
-planeWord v base row k = wordAt v (base + row + k * 8)
+planeWord v base row k = vramWord v (base + row + k * 8)
 
 -- column x of such a word: the low byte is the lower plane, bit 7 the leftmost
-abbrev pub pairOf : ℕ → ℕ → ℕ
-pairOf w x = w / 2 ^ (7 - x) % 2 + w / 2 ^ (15 - x) % 2 * 2
+abbrev pub twoBits : ℕ → ℕ → ℕ
+twoBits w x = w / 2 ^ (7 - x) % 2 + w / 2 ^ (15 - x) % 2 * 2
 
 abbrev pub pairAt : List ℕ → ℕ → ℕ → ℕ → ℕ → ℕ
-pairAt v base x y k = pairOf (planeWord v base y k) x
+pairAt v base x y k = twoBits (planeWord v base y k) x
 
 -- the colour index of pixel (x, y) over n plane pairs, the first the lowest
 unfoldable pub indexOf : List ℕ → ℕ → ℕ → ℕ → ℕ → ℕ

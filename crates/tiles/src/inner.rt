@@ -2,14 +2,14 @@
 use crate::BitDepth;
 ghost use mathlib.Core.Path.{_≡_};
 ghost use Prim.Native.Nat.{_^_, _<_};
-ghost use Rattle.tiles.specs.Tiles.{wordAt, planeWord, pairOf, pairAt, indexOf, pairsOf, mirrored};
+ghost use Rattle.tiles.specs.Tiles.{vramWord, planeWord, twoBits, pairAt, indexOf, pairsOf, mirrored};
 
 // The words of VRAM.
 pub const VRAM_WORDS: usize = 32768;
 
 // The word at an address, taken mod 32,768; 0 where VRAM is shorter.
 pub fn word(vram: &[u16], address: usize) -> u16
-    ensures { λ r. ⌜ r ≡ wordAt (now (vram .entry)) address ⌝ }
+    ensures { λ r. ⌜ r ≡ vramWord (now (vram .entry)) address ⌝ }
 {
     let at = address % VRAM_WORDS;
     if at < vram.len() { vram[at] } else { 0 }
@@ -26,7 +26,7 @@ pub fn plane_word(vram: &[u16], base: usize, row: usize, pair: usize) -> u16
 // The two bits of a column in such a word: the low byte is the lower plane, bit 7 the leftmost.
 pub fn two_bits(word: u16, col: usize) -> u8
     requires { ⌜ col < 8 ⌝ }
-    ensures { λ r. ⌜ (r ≡ pairOf word col) × (r < 4) ⌝ }
+    ensures { λ r. ⌜ (r ≡ twoBits word col) × (r < 4) ⌝ }
 {
     ((word >> (7 - col)) % 2 + (word >> (15 - col)) % 2 * 2) as u8
 }

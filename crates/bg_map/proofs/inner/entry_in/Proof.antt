@@ -2,7 +2,7 @@ use Rattle.bg_map.proofs.Places.{tile-small}
 use Rattle.bg_map.specs.Rows.{entryIn}
 use Rattle.bg_map.specs.Map.{entryOf}
 use Rattle.bg_map.specs.declared.MapEntry.{MapEntry}
-use Rattle.tiles.specs.Tiles.{wordAt}
+use Rattle.tiles.specs.Tiles.{vramWord}
 use denote.Ref.{now}
 use mathlib.Core.Path.{sym, subst, ap, _∙_}
 use Prim.Native.Nat.{ℕ, _+_, _*_, _/_, _%_, _<_}
@@ -36,7 +36,7 @@ map-entry-requires c κs = search needs
 
 returns : tie.Need-returns
 unfolding entryIn
-returns c = let w = c .before in let t = w .before in let a = t .before .before .args in (c .map-entry .ensures ∙ ap entryOf (w .word .ensures ∙ (λ i. wordAt (now (a .vram)) (a .map-row + t .tile-of .ensures i / 32 * 1024 + t .tile-of .ensures i % 32))), omega (arith, ap (λ (e : MapEntry). e .palette) (c .map-entry .ensures)))
+returns c = let w = c .before in let t = w .before in let a = t .before .before .args in (c .map-entry .ensures ∙ ap entryOf (w .word .ensures ∙ (λ i. vramWord (now (a .vram)) (a .map-row + t .tile-of .ensures i / 32 * 1024 + t .tile-of .ensures i % 32))), omega (arith, ap (λ (e : MapEntry). e .palette) (c .map-entry .ensures)))
 
 pub entry-in-spec : {M : Type 1} → statement M
 entry-in-spec =

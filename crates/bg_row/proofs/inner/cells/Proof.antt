@@ -1,8 +1,8 @@
 use Rattle.bg_row.proofs.Decode.{cell-of}
 use Rattle.bg_row.specs.Cells.{cellAt}
 use Rattle.bg_tile.proofs.Laws.{palette-length}
-use Rattle.bg_tile.specs.Characters.{characterAt, cellIn}
-use Rattle.bg_tile.specs.Tile.{paletteOf}
+use Rattle.bg_tile.specs.Characters.{characterRowAt, cellIn}
+use Rattle.bg_tile.specs.Tile.{bgColours}
 use Rattle.lists.specs.Filling.{Front, front-none, front-more, front-at, front-all}
 use denote.Ref.{now}
 use native.Mathlib.Nat.{mod-lt, add-zero}
@@ -30,8 +30,8 @@ abbrev μ-loop : tie.MeasureT-loop
 loop-holds : tie.Need-loop-holds Inv-loop2 μ-loop2 Inv-loop μ-loop
 loop-holds c = (front-none (search needs), omega arith)
 
-character-requires : tie.Need-character-requires Inv-loop2 μ-loop2 Inv-loop μ-loop
-character-requires c κs =
+character-row-requires : tie.Need-character-row-requires Inv-loop2 μ-loop2 Inv-loop μ-loop
+character-row-requires c κs =
     let m = c .before .before .before in
     let w = m .before in
     let a = w .before .before .before .before .before .args in
@@ -40,7 +40,7 @@ character-requires c κs =
 palette-requires : tie.Need-palette-requires Inv-loop2 μ-loop2 Inv-loop μ-loop
 palette-requires c κs =
     let s = c .before .before .before .before .before .before .before .before .before .before in
-    (s .pre .0, (s .pre .1 .0, c .character .ensures .1 .1))
+    (s .pre .0, (s .pre .1 .0, c .character-row .ensures .1 .palette-in))
 
 loop2-holds : tie.Need-loop2-holds Inv-loop2 μ-loop2 Inv-loop μ-loop
 loop2-holds c = let l = c .before .before .before .loop in (simp add-zero (l .inv .0), omega arith)
@@ -50,8 +50,8 @@ cell-requires c κs =
     let q = c .before .before in
     let t = q .before in
     let s = t .before .before .before .before .before .before .before .before .before .before in
-    let long = palette-length (now (s .args .cgram)) (s .args .p) (t .character .result .palette) (s .pre .0) (s .pre .1 .0) (t .character .ensures .1 .1) in
-    (rw (q .palette .ensures) long, (t .character .ensures .1 .0, c .loop2-test .taken))
+    let long = palette-length (now (s .args .cgram)) (s .args .p) (t .character-row .result .palette) (s .pre .0) (s .pre .1 .0) (t .character-row .ensures .1 .palette-in) in
+    (rw (q .palette .ensures) long, (t .character-row .ensures .1, c .loop2-test .taken))
 
 loop2-again : tie.Need-loop2-again Inv-loop2 μ-loop2 Inv-loop μ-loop
 loop2-again c =
@@ -68,8 +68,8 @@ loop2-again c =
     let j = o .before .loop .j in
     let k = l .k in
     let h = i .loop2-test .taken in
-    let ch = t .character .ensures .0 ∙ (λ n. characterAt v (a .p) ((a .p .«scroll_x» / 8 * 8 + j * 8) % w .extent .ensures .0 n) (a .py)) in
-    let colours = q .palette .ensures ∙ (λ n. paletteOf g (a .p) (ch n .palette)) in
+    let ch = t .character-row .ensures .0 ∙ (λ n. characterRowAt v (a .p) ((a .p .«scroll_x» / 8 * 8 + j * 8) % w .extent .ensures .0 n) (a .py)) in
+    let colours = q .palette .ensures ∙ (λ n. bgColours g (a .p) (ch n .palette)) in
     let is =
     c .cell .ensures
     ∙ ((λ n. cellIn v (colours n) (a .p) (d .is-direct .ensures n) (ch n) k) ∙ cell-of v g (a .p) (a .direct) (a .py) j k h) in
@@ -106,7 +106,7 @@ cells-spec =
     (λ c. search needs)
     (λ c. search needs)
     (λ c. search needs)
-    character-requires
+    character-row-requires
     palette-requires
     loop2-holds
     cell-requires

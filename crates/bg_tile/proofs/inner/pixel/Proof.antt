@@ -1,6 +1,6 @@
 use Rattle.bg_tile.proofs.Laws.{palette-length, cell-is-pixel}
 use Rattle.bg_tile.specs.Characters.{cellIn}
-use Rattle.bg_tile.specs.Tile.{paletteOf, pixelAt}
+use Rattle.bg_tile.specs.Tile.{bgColours, pixelAt}
 use denote.Ref.{now}
 use mathlib.Core.Path.{_≡_, ap, _∙_}
 use Prim.Native.Nat.{ℕ, _+_, _*_, _/_, _%_}
@@ -14,9 +14,9 @@ cell-requires c κs =
     let t = c .before .before in
     let s = t .before .before .before .before in
     let long =
-    palette-length (now (s .args .cgram)) (s .args .p) (t .character .result .palette) (s .pre .0 .0) (s .pre .0 .1)
-    (t .character .ensures .1 .1) in
-    (rw (c .before .palette .ensures) long, (t .character .ensures .1 .0, omega arith))
+    palette-length (now (s .args .cgram)) (s .args .p) (t .character-row .result .palette) (s .pre .0 .0) (s .pre .0 .1)
+    (t .character-row .ensures .1 .palette-in) in
+    (rw (c .before .palette .ensures) long, (t .character-row .ensures .1, omega arith))
 
 returns : tie.Need-returns
 returns c =
@@ -28,8 +28,8 @@ returns c =
     let g = now (a .cgram) in
     let n = a .px / 8 * 8 in
     let k = a .px % 8 in
-    let ch = t .character .ensures .0 in
-    let colours = q .palette .ensures ∙ (λ j. paletteOf g (a .p) (ch j .palette)) in
+    let ch = t .character-row .ensures .0 in
+    let colours = q .palette .ensures ∙ (λ j. bgColours g (a .p) (ch j .palette)) in
     let whole : n + k ≡ a .px = omega arith in
     c .cell .ensures
     ∙ ((λ i. cellIn v (colours i) (a .p) (d .is-direct .ensures i) (ch i) k)

@@ -1,6 +1,6 @@
 use borrow.Author.Needs.{needs}
 use mathlib.Core.Path.{_∙_}
-use Rattle.packed.specs.Packed.{overIf}
+use Rattle.packed.specs.Packed.{heldUnless}
 use Rattle.packed.proofs.inner.lay_five.Statement.{statement}
 use Rattle.packed.proofs.inner.lay_five.Tie as tie
 
@@ -11,10 +11,10 @@ returns c =
     let second = third .before in
     let first = second .before in
     let a = first .before .args in
-    let two = second .lay-unless2 .ensures ∙ (λ i. overIf (a .no-b) (first .lay-unless .ensures i) (a .b)) in
-    let three = third .lay-unless3 .ensures ∙ (λ i. overIf (a .no-c) (two i) (a .c)) in
-    let four = fourth .lay-unless4 .ensures ∙ (λ i. overIf (a .no-d) (three i) (a .d)) in
-    c .lay-unless5 .ensures ∙ (λ i. overIf (a .no-e) (four i) (a .e))
+    let two = second .lay-unless2 .ensures ∙ (λ i. heldUnless (a .bg2-barred) (first .lay-unless .ensures i) (a .bg2)) in
+    let three = third .lay-unless3 .ensures ∙ (λ i. heldUnless (a .bg3-barred) (two i) (a .bg3)) in
+    let four = fourth .lay-unless4 .ensures ∙ (λ i. heldUnless (a .bg4-barred) (three i) (a .bg4)) in
+    c .lay-unless5 .ensures ∙ (λ i. heldUnless (a .obj-barred) (four i) (a .obj))
 
 pub lay-five-spec : {M : Type 1} → statement M
 lay-five-spec =

@@ -6,10 +6,10 @@ use Rattle.packed.proofs.inner.line.Statement.{statement}
 use Rattle.packed.proofs.inner.line.Tie as tie
 
 abbrev Inv-loop : tie.InvT-loop
-Inv-loop back a no-a b no-b c no-c d no-d e no-e out₀ x₀ out x = Front 256 (lineRule back a no-a b no-b c no-c d no-d e no-e) out x
+Inv-loop back bg1 bg1-barred bg2 bg2-barred bg3 bg3-barred bg4 bg4-barred obj obj-barred out₀ x₀ out x = Front 256 (lineRule back bg1 bg1-barred bg2 bg2-barred bg3 bg3-barred bg4 bg4-barred obj obj-barred) out x
 
 abbrev μ-loop : tie.MeasureT-loop
-μ-loop back a no-a b no-b c no-c d no-d e no-e out₀ x₀ out x = 256 - x
+μ-loop back bg1 bg1-barred bg2 bg2-barred bg3 bg3-barred bg4 bg4-barred obj obj-barred out₀ x₀ out x = 256 - x
 
 loop-holds : tie.Need-loop-holds Inv-loop μ-loop
 loop-holds c = front-none (search needs)

@@ -8,9 +8,9 @@ use native.Mathlib.Nat.{mod-lt, add-zero}
 use lib.ListN.{getD}
 use Rattle.lists.specs.Tab.{getD-tab}
 use Rattle.lists.specs.Filling.{Front, front-none, front-more, front-at, front-all}
-use Rattle.bg_tile.specs.declared.Character.{Character}
-use Rattle.bg_tile.specs.Tile.{paletteOf, isEight}
-use Rattle.bg_tile.specs.Characters.{characterAt, cellIn}
+use Rattle.tiles_row.specs.declared.TileRow.{TileRow}
+use Rattle.bg_tile.specs.Tile.{bgColours, isEight}
+use Rattle.bg_tile.specs.Characters.{characterRowAt, cellIn}
 use Rattle.bg_row.specs.Cells.{cellAt}
 use Rattle.bg_row.proofs.Decode.{cell-of}
 use Rattle.packed.specs.Packed.{packedIf}
@@ -34,8 +34,8 @@ abbrev μ-loop : tie.MeasureT-loop
 loop-holds : tie.Need-loop-holds Inv-loop2 μ-loop2 Inv-loop μ-loop
 loop-holds c = (front-none (search needs), omega arith)
 
-character-requires : tie.Need-character-requires Inv-loop2 μ-loop2 Inv-loop μ-loop
-character-requires c κs =
+character-row-requires : tie.Need-character-row-requires Inv-loop2 μ-loop2 Inv-loop μ-loop
+character-row-requires c κs =
     let m = c .before .before in
     let w = m .before in
     let a = w .before .before .before .before .before .args in
@@ -44,7 +44,7 @@ character-requires c κs =
 eight-requires : tie.Need-eight-requires Inv-loop2 μ-loop2 Inv-loop μ-loop
 eight-requires c κs =
     let s = c .before .before .before .before .before .before .before .before .before in
-    ((s .pre .1 .0, s .pre .1 .1 .0), c .character .ensures .1)
+    ((s .pre .1 .0, s .pre .1 .1 .0), c .character-row .ensures .1)
 
 loop2-holds : tie.Need-loop2-holds Inv-loop2 μ-loop2 Inv-loop μ-loop
 loop2-holds c = let l = c .before .before .before .loop in (simp add-zero (l .inv .0), omega arith)
@@ -64,11 +64,11 @@ loop2-again c =
     let k = l .k in
     let h = c .loop2-test .taken in
     let direct = isEight (p .bpp) && a .direct in
-    let shown : Character → ℕ → ℕ = λ s n. packedIf (cellIn v (paletteOf g p (s .palette)) p direct s n) in
-    let ch = t .character .ensures .0 ∙ (λ n. characterAt v p ((p .«scroll_x» / 8 * 8 + j * 8) % w .extent .ensures .0 n) (a .py)) in
+    let shown : TileRow → ℕ → ℕ = λ s n. packedIf (cellIn v (bgColours g p (s .palette)) p direct s n) in
+    let ch = t .character-row .ensures .0 ∙ (λ n. characterRowAt v p ((p .«scroll_x» / 8 * 8 + j * 8) % w .extent .ensures .0 n) (a .py)) in
     let is =
     (λ n. getD (q .eight .ensures n) k 0)
-    ∙ (getD-tab (shown (t .character .result)) 8 k 0 h
+    ∙ (getD-tab (shown (t .character-row .result)) 8 k 0 h
     ∙ ((λ n. shown (ch n) k) ∙ (λ n. packedIf (cell-of v g p (a .direct) (a .py) j k h n)))) in
     let low : j * 8 + k < 264 = omega (arith, h, o .loop-test .taken) in
     let e : j * 8 + k + 1 ≡ j * 8 + (k + 1) = omega arith in
@@ -101,7 +101,7 @@ cells-spec =
     (λ c. search needs)
     (λ c. search needs)
     (λ c. search needs)
-    character-requires
+    character-row-requires
     eight-requires
     loop2-holds
     (λ c. search needs)

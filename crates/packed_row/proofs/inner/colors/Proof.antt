@@ -22,10 +22,10 @@ settings-is : (c : tie.After-screen) → c .before .before .of .result ≡ setti
 settings-is c = c .before .before .of .ensures
 
 abbrev mainOf : tie.Start → ℕ → ℕ
-mainOf s = let p = s .args in screenAt (now (p .a)) (now (p .b)) (now (p .c)) (now (p .d)) (now (p .e)) (p .back) (p .r) (p .r .tm) (p .r .tmw)
+mainOf s = let p = s .args in screenAt (now (p .bg1)) (now (p .bg2)) (now (p .bg3)) (now (p .bg4)) (now (p .obj)) (p .back) (p .r) (p .r .tm) (p .r .tmw)
 
 abbrev subOf : tie.Start → ℕ → ℕ
-subOf s = let p = s .args in subAt (now (p .a)) (now (p .b)) (now (p .c)) (now (p .d)) (now (p .e)) (p .r)
+subOf s = let p = s .args in subAt (now (p .bg1)) (now (p .bg2)) (now (p .bg3)) (now (p .bg4)) (now (p .obj)) (p .r)
 
 main-is : (c : tie.After-screen) (x : ℕ) → x < 256 → getD (c .screen .result) x 0 ≡ mainOf (start c) x
 main-is c x h = (λ i. getD (c .screen .ensures i) x 0) ∙ getD-tab (mainOf (start c)) 256 x 0 h

@@ -4,7 +4,7 @@ use mathlib.Core.Path.{_∙_}
 use mathlib.Core.Bool.{false}
 use lib.ListN.{getD}
 use Rattle.lists.specs.Tab.{tab-ext, getD-tab}
-use Rattle.packed.specs.Packed.{overIf, lineRule}
+use Rattle.packed.specs.Packed.{heldUnless, lineRule}
 use Rattle.packed_row.specs.Screens.{bgBarred, objBarred, screenAt}
 use Rattle.packed_row.proofs.inner.screen.Statement.{statement}
 use Rattle.packed_row.proofs.inner.screen.Tie as tie
@@ -21,21 +21,21 @@ returns c =
     c .line .ensures
     ∙ tab-ext 256 _ _
     (λ x h.
-    let no-a = (λ i. getD (one .bg-barred .ensures i) x false) ∙ getD-tab (bgBarred (p .r) (p .lit) (p .win) 0) 256 x false h in
-    let no-b = (λ i. getD (two .bg-barred2 .ensures i) x false) ∙ getD-tab (bgBarred (p .r) (p .lit) (p .win) 1) 256 x false h in
-    let no-c = (λ i. getD (three .bg-barred3 .ensures i) x false) ∙ getD-tab (bgBarred (p .r) (p .lit) (p .win) 2) 256 x false h in
-    let no-d = (λ i. getD (four .bg-barred4 .ensures i) x false) ∙ getD-tab (bgBarred (p .r) (p .lit) (p .win) 3) 256 x false h in
-    let no-e = (λ i. getD (o .obj-barred .ensures i) x false) ∙ getD-tab (objBarred (p .r) (p .lit) (p .win)) 256 x false h in
+    let no-bg1 = (λ i. getD (one .bg-barred .ensures i) x false) ∙ getD-tab (bgBarred (p .r) (p .lit) (p .win) 0) 256 x false h in
+    let no-bg2 = (λ i. getD (two .bg-barred2 .ensures i) x false) ∙ getD-tab (bgBarred (p .r) (p .lit) (p .win) 1) 256 x false h in
+    let no-bg3 = (λ i. getD (three .bg-barred3 .ensures i) x false) ∙ getD-tab (bgBarred (p .r) (p .lit) (p .win) 2) 256 x false h in
+    let no-bg4 = (λ i. getD (four .bg-barred4 .ensures i) x false) ∙ getD-tab (bgBarred (p .r) (p .lit) (p .win) 3) 256 x false h in
+    let no-obj = (λ i. getD (o .obj-barred .ensures i) x false) ∙ getD-tab (objBarred (p .r) (p .lit) (p .win)) 256 x false h in
     λ i.
-    overIf (no-e i)
-    (overIf (no-d i)
-    (overIf (no-c i)
-    (overIf (no-b i)
-    (overIf (no-a i) (p .back) (getD (now (p .a)) x 0))
-    (getD (now (p .b)) x 0))
-    (getD (now (p .c)) x 0))
-    (getD (now (p .d)) x 0))
-    (getD (now (p .e)) x 0))
+    heldUnless (no-obj i)
+    (heldUnless (no-bg4 i)
+    (heldUnless (no-bg3 i)
+    (heldUnless (no-bg2 i)
+    (heldUnless (no-bg1 i) (p .back) (getD (now (p .bg1)) x 0))
+    (getD (now (p .bg2)) x 0))
+    (getD (now (p .bg3)) x 0))
+    (getD (now (p .bg4)) x 0))
+    (getD (now (p .obj)) x 0))
 
 pub screen-spec : {M : Type 1} → statement M
 screen-spec =

@@ -14,7 +14,7 @@ use Rattle.packed_row.proofs.inner.sub_line.Tie as tie
 abbrev shown : (c : tie.Start) → Bool → ℕ → ℕ
 shown c on x =
     let p = c .args in
-    cond on (screenAt (now (p .a)) (now (p .b)) (now (p .c)) (now (p .d)) (now (p .e)) (packed (backdropOf (p .r .coldata))) (p .r) (p .r .ts) (p .r .tsw) x) 0
+    cond on (screenAt (now (p .bg1)) (now (p .bg2)) (now (p .bg3)) (now (p .bg4)) (now (p .obj)) (packed (backdropOf (p .r .coldata))) (p .r) (p .r .ts) (p .r .tsw) x) 0
 
 returns : tie.Need-returns
 returns c =
@@ -23,7 +23,7 @@ returns c =
     let s = b .before .before .before .before .before .before in
     let p = s .args in
     c .screen .ensures
-    ∙ ((λ i. tab 256 (screenAt (now (p .a)) (now (p .b)) (now (p .c)) (now (p .d)) (now (p .e)) (k .backdrop .ensures i) (p .r) (p .r .ts) (p .r .tsw)))
+    ∙ ((λ i. tab 256 (screenAt (now (p .bg1)) (now (p .bg2)) (now (p .bg3)) (now (p .bg4)) (now (p .obj)) (k .backdrop .ensures i) (p .r) (p .r .ts) (p .r .tsw)))
     ∙ ((λ i. tab 256 (shown s (sym (k .before .if1 .taken) i))) ∙ (λ i. tab 256 (shown s (b .bit .ensures i)))))
 
 returns-2 : tie.Need-returns-2

@@ -3,14 +3,14 @@ use denote.Ref.{now}
 use mathlib.Core.Path.{_∙_}
 use Prim.Native.Nat.{_-_}
 use Rattle.lists.specs.Filling.{Front, front-none, front-more, front-all}
-use Rattle.tiles.specs.Tiles.{pairOf, mirrored}
+use Rattle.tiles.specs.Tiles.{twoBits, mirrored}
 use Rattle.packed_tile.specs.Shades.{shade}
 use Rattle.packed_tile.proofs.Order.{column-is, column-small}
 use Rattle.packed_tile.proofs.inner.of_two.Statement.{statement}
 use Rattle.packed_tile.proofs.inner.of_two.Tie as tie
 
 abbrev Inv-loop : tie.InvT-loop
-Inv-loop w0 flip head colors cols out₀ k₀ out k = Front 8 (λ j. shade colors head (pairOf w0 (mirrored j 8 flip))) out k
+Inv-loop w0 flip head colors cols out₀ k₀ out k = Front 8 (λ j. shade colors head (twoBits w0 (mirrored j 8 flip))) out k
 
 abbrev μ-loop : tie.MeasureT-loop
 μ-loop w0 flip head colors cols out₀ k₀ out k = 8 - k
@@ -28,7 +28,7 @@ loop-again c =
     let t = l .before .before in
     let a = t .before .before .args in
     let at = column-is _ (a .flip) (t .turned .ensures) _ (l .loop-test .taken) in
-    let is = c .shaded .ensures ∙ (λ i. shade (now (a .colors)) (a .head) ((b .two-bits .ensures .0 ∙ (λ j. pairOf (a .w0) (at j))) i)) in
+    let is = c .shaded .ensures ∙ (λ i. shade (now (a .colors)) (a .head) ((b .two-bits .ensures .0 ∙ (λ j. twoBits (a .w0) (at j))) i)) in
     front-more (l .before .loop .inv) (l .loop-test .taken) _ is
 
 returns : tie.Need-returns Inv-loop μ-loop

@@ -8,17 +8,17 @@ use Rattle.renderer.proofs.Packed.{bgRow, spriteRow, colour-is}
 use Rattle.renderer.proofs.inner.mixed.Statement.{statement}
 use Rattle.renderer.proofs.inner.mixed.Tie as tie
 
-row-requires : tie.Need-row-requires
-row-requires c κs = (tab-same 256 refl, search needs)
+background-row-requires : tie.Need-background-row-requires
+background-row-requires c κs = (tab-same 256 refl, search needs)
 
-row-requires-2 : tie.Need-row-requires-2
-row-requires-2 c κs = (tab-same 256 refl, search needs)
+background-row-requires-2 : tie.Need-background-row-requires-2
+background-row-requires-2 c κs = (tab-same 256 refl, search needs)
 
-row-requires-3 : tie.Need-row-requires-3
-row-requires-3 c κs = (tab-same 256 refl, search needs)
+background-row-requires-3 : tie.Need-background-row-requires-3
+background-row-requires-3 c κs = (tab-same 256 refl, search needs)
 
-row-requires-4 : tie.Need-row-requires-4
-row-requires-4 c κs = (tab-same 256 refl, search needs)
+background-row-requires-4 : tie.Need-background-row-requires-4
+background-row-requires-4 c κs = (tab-same 256 refl, search needs)
 
 returns : tie.Need-returns
 returns c =
@@ -35,11 +35,11 @@ returns c =
     let r = a .r in
     let y = a .y in
     let g = w .wide .ensures in
-    let first = one .row .ensures ∙ (λ i. tab 256 (bgRow (scene r v (g i) o) y 0)) in
-    let second = two .row2 .ensures ∙ (λ i. tab 256 (bgRow (scene r v (g i) o) y 1)) in
-    let third = three .row3 .ensures ∙ (λ i. tab 256 (bgRow (scene r v (g i) o) y 2)) in
-    let fourth = four .row4 .ensures ∙ (λ i. tab 256 (bgRow (scene r v (g i) o) y 3)) in
-    let fifth = five .row5 .ensures ∙ (λ i. tab 256 (spriteRow (scene r v (g i) o) y)) in
+    let first = one .background-row .ensures ∙ (λ i. tab 256 (bgRow (scene r v (g i) o) y 0)) in
+    let second = two .background-row2 .ensures ∙ (λ i. tab 256 (bgRow (scene r v (g i) o) y 1)) in
+    let third = three .background-row3 .ensures ∙ (λ i. tab 256 (bgRow (scene r v (g i) o) y 2)) in
+    let fourth = four .background-row4 .ensures ∙ (λ i. tab 256 (bgRow (scene r v (g i) o) y 3)) in
+    let fifth = five .sprites-row .ensures ∙ (λ i. tab 256 (spriteRow (scene r v (g i) o) y)) in
     c .colors .ensures
     ∙ ((λ i. tab 256 (colourOfRow (first i) (second i) (third i) (fourth i) (fifth i) (b .backdrop .ensures i) r))
     ∙ tab-ext 256 _ _ (λ x h. colour-is (scene r v (now (a .cgram)) o) y x h))
@@ -53,16 +53,16 @@ mixed-spec =
     (λ c κs. search needs)
     (λ c. search needs)
     (λ c. search needs)
-    row-requires
+    background-row-requires
     (λ c. search needs)
     (λ c. search needs)
-    row-requires-2
+    background-row-requires-2
     (λ c. search needs)
     (λ c. search needs)
-    row-requires-3
+    background-row-requires-3
     (λ c. search needs)
     (λ c. search needs)
-    row-requires-4
+    background-row-requires-4
     (λ c. search needs)
     (λ c κs. search needs)
     (λ c. search needs)

@@ -7,7 +7,7 @@ use Rattle.scene.proofs.inner.scene_tested.Tie as tie
 
 returns : tie.Need-returns
 unfolding sceneTests
-returns c = let e = c .before in (c .from-sprites .ensures .0 ∙ by-verdict _ (e .before .before .section .ensures .0) (e .enum-told .given .1), λ n. c .from-sprites .ensures .1 n)
+returns c = let e = c .before in (c .test-from-sprites .ensures .0 ∙ by-verdict _ (e .before .before .section .ensures .0) (e .enum-told .given .1), λ n. c .test-from-sprites .ensures .1 n)
 
 returns-2 : tie.Need-returns-2
 unfolding sceneTests

@@ -8,7 +8,7 @@ returns : tie.Need-returns
 returns c =
     let r = c .before .before .before .before .before .before in
     let told = r .before .before .before .before in
-    read-then (told .before .before .before .before .before .section .ensures) spritesOn (told .enum-told .given .1) (r .from-sprites .ensures)
+    read-then (told .before .before .before .before .before .section .ensures) spritesOn (told .enum-told .given .1) (r .read-from-sprites .ensures)
 
 returns-2 : tie.Need-returns-2
 returns-2 c = let n = c .before in read-stopped (n .before .before .before .before .before .section .ensures) spritesOn (n .k .given .1)

@@ -14,7 +14,7 @@ use Rattle.oam.specs.Sprites.{blankSprite}
 use Rattle.sprite_row.specs.SpriteRow.{x9, sizeIn, counts}
 use Rattle.choice.specs.Choice.{blankPlace}
 use Rattle.sprite_tile.specs.Tile.{lineIn}
-use Rattle.sprite_tile.specs.Slices.{sliceOf}
+use Rattle.sprite_tile.specs.Placed.{placedOf}
 use Rattle.sprite_fetch.specs.Fetch.{Tile, tile, fetchOrder}
 use Rattle.sprite_fetch.specs.Walk.{spritesOf}
 use Rattle.sprite_fetch.proofs.Order.{SoFar, so-far-none, so-far-at, so-far-more, full, built, tilesTo, tiles-none, tiles-no, tiles-yes, order-none, order-more, sprites-long, sprite-at}
@@ -22,18 +22,18 @@ use Rattle.sprite_fetch.proofs.inner.fetch.Statement.{statement}
 use Rattle.sprite_fetch.proofs.inner.fetch.Tie as tie
 
 abbrev Inv-loop2 : tie.InvT-loop2
-Inv-loop2 view chosen slices₀ count₀ k s size line x9 tiles-wide t₀ slices count t =
-    SoFar view (fetchOrder (view .objsel) (drop (k + 1) (spritesOf (chosen .count) (chosen .sprites))) ++ tilesTo s t) slices count × (t ≤ tiles-wide)
+Inv-loop2 view chosen rows₀ count₀ k s size line x9 tiles-wide t₀ rows count t =
+    SoFar view (fetchOrder (view .objsel) (drop (k + 1) (spritesOf (chosen .count) (chosen .sprites))) ++ tilesTo s t) rows count × (t ≤ tiles-wide)
 
 abbrev μ-loop2 : tie.MeasureT-loop2
-μ-loop2 view chosen slices₀ count₀ k s size line x9 tiles-wide t₀ slices count t = tiles-wide - t
+μ-loop2 view chosen rows₀ count₀ k s size line x9 tiles-wide t₀ rows count t = tiles-wide - t
 
 abbrev Inv-loop : tie.InvT-loop
-Inv-loop view chosen slices₀ count₀ k₀ slices count k =
-    SoFar view (fetchOrder (view .objsel) (drop k (spritesOf (chosen .count) (chosen .sprites)))) slices count × (k ≤ chosen .count)
+Inv-loop view chosen rows₀ count₀ k₀ rows count k =
+    SoFar view (fetchOrder (view .objsel) (drop k (spritesOf (chosen .count) (chosen .sprites)))) rows count × (k ≤ chosen .count)
 
 abbrev μ-loop : tie.MeasureT-loop
-μ-loop view chosen slices₀ count₀ k₀ slices count k = k
+μ-loop view chosen rows₀ count₀ k₀ rows count k = k
 
 -- the array of the struct has its 32 places, and so many sprites are listed as it says
 whole : (c : tie.Start Inv-loop2 μ-loop2 Inv-loop μ-loop) → length (c .args .t1 .sprites) ≡ 32
@@ -134,8 +134,8 @@ returns c =
     (full (a .view) (a .view .objsel) (list o) (o .before .loop .k - 1) (l .t) (listed-at o) w
     (so-far-at (a .view) (λ i. later o ++ tilesTo (in-list o i) (l .t)) (l .inv .0)) (c .if2 .taken))
 
-slice-requires : tie.Need-slice-requires Inv-loop2 μ-loop2 Inv-loop μ-loop
-slice-requires c κs =
+placed-requires : tie.Need-placed-requires Inv-loop2 μ-loop2 Inv-loop μ-loop
+placed-requires c κs =
     let i2 = c .before .before .before in
     let n = i2 .before .before .before .before .before in
     let z = n .before in
@@ -153,11 +153,11 @@ loop2-again-2 c =
     let s = sprite o in
     let width = z .sprite-size .ensures .0 in
     let line = n .line-in .ensures .0 ∙ (λ i. lineIn (a .view) s (width i .width)) in
-    let is = c .slice .ensures .0 ∙ (λ i. sliceOf s (width i .width) (line i) (l .t)) in (
+    let is = c .placed .ensures .0 ∙ (λ i. placedOf s (width i .width) (line i) (l .t)) in (
       so-far-at (a .view)
           (append-assoc (later o) (tilesTo s (l .t)) (tile s (l .t) ∷ [])
           ∙ (λ i. later o ++ sym (tiles-yes s (l .t) (sym (is-counted t) ∙ not-false _ (c .before .before .if1 .left))) i))
-          (so-far-more (a .view) (tile s (l .t)) (l .inv .0) (c .before .if2 .left) is (c .slice .ensures .1)),
+          (so-far-more (a .view) (tile s (l .t)) (l .inv .0) (c .before .if2 .left) is (c .placed .ensures .1)),
       omega arith,
     )
 
@@ -195,7 +195,7 @@ fetch-spec =
     (λ c. search needs)
     loop2-again
     returns
-    slice-requires
+    placed-requires
     (λ c. search needs)
     (λ c. search needs)
     (λ c. search needs)

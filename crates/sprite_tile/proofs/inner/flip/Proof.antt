@@ -1,30 +1,27 @@
 use native.Mathlib.Omega.{arith}
-use native.Mathlib.Nat.{mod-le, mod-lt}
-use Rattle.sprite_tile.proofs.Laws.{flip-fits}
+use native.Mathlib.Nat.{mod-lt}
+use mathlib.Core.Path.{ap}
+use Prim.Native.Nat.{ℕ, _+_, _*_, _/_}
+use Rattle.sprite_tile.proofs.Laws.{square-start}
 use borrow.Author.Needs.{needs}
 use Rattle.sprite_tile.proofs.inner.flip.Statement.{statement}
 use Rattle.sprite_tile.proofs.inner.flip.Tie as tie
 
-sub-result : tie.Need-sub-result
-sub-result c = let a = c .before .args in omega (arith, mod-le (a .line) (a .width))
+mul-result : tie.Need-mul-result
+mul-result c = let a = c .args in omega (arith, square-start (a .width) (a .line))
 
-sub-result-3 : tie.Need-sub-result-3
-sub-result-3 c = let s = c .before in omega (arith, mod-lt (s .args .line) (s .pre .1 .0))
+mirror-requires : tie.Need-mirror-requires
+mirror-requires c κs = mod-lt (c .args .line) (c .pre .1 .0)
+
+add-result : tie.Need-add-result
+add-result c = let a = c .before .args in omega (arith, square-start (a .width) (a .line))
 
 returns : tie.Need-returns
 returns c =
     let s = c .before in
-    (rw (c .if1 .taken), omega (arith, flip-fits (s .args .width) (s .args .line) (s .pre .1 .0)))
+    let a = s .args in
+    (ap (λ (n : ℕ). a .line / a .width * a .width + n) (c .mirror .ensures .0), omega (arith, square-start (a .width) (a .line)))
 
 pub flip-spec : {M : Type 1} → statement M
 flip-spec =
-    tie.close
-    (tie.spec
-    (λ c. search needs)
-    sub-result
-    (λ c. search needs)
-    (λ c. search needs)
-    sub-result-3
-    (λ c. search needs)
-    returns
-    (λ c. search needs))
+    tie.close (tie.spec (λ c. search needs) mul-result (λ c. search needs) mirror-requires add-result returns)
