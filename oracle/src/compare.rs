@@ -2,12 +2,11 @@
 
 use crate::frame;
 use crate::kinds::{KINDS, scene};
-use crate::program::{Input, found, run, two_at_a_time};
+use crate::program::{Input, Program, found, run, two_at_a_time};
 use crate::rows::ROWS;
 use crate::scene::read;
 use crate::screen::Screen;
 use crate::{background, choice, port, rows, sprites};
-use std::path::Path;
 
 /// A list that a replay program prints of any seed.
 pub struct List {
@@ -86,7 +85,7 @@ fn overs(screen: &Screen) -> [u32; 2] {
 }
 
 /// One scene of kind k, by the frame program and by the Rust.
-fn one_scene(program: &Path, k: usize, seed: u32) -> Result<Drawn, String> {
+fn one_scene(program: &Program, k: usize, seed: u32) -> Result<Drawn, String> {
     let (kind, name) = KINDS[k];
     let said = |text: String| format!("oracle scene {name} {seed}: {text}");
     let bytes = scene(kind, seed).bytes();
@@ -106,8 +105,8 @@ fn one_scene(program: &Path, k: usize, seed: u32) -> Result<Drawn, String> {
     })
 }
 
-fn scenes(folder: &str, n: u32, seed: u32) -> Result<(), String> {
-    let program = found(folder, "frame")?;
+fn scenes(programs: &str, n: u32, seed: u32) -> Result<(), String> {
+    let program = found(programs, "frame")?;
     let turns = n.div_ceil(KINDS.len() as u32);
     let drawn = two_at_a_time(turns as usize * KINDS.len(), |k| {
         let turn = (k / KINDS.len()) as u32;
@@ -134,8 +133,8 @@ fn scenes(folder: &str, n: u32, seed: u32) -> Result<(), String> {
 }
 
 /// Lists of seeds that stand far apart.
-fn lists(folder: &str, list: &List, n: u32, seed: u32) -> Result<(), String> {
-    let program = found(folder, &format!("replay_{}", list.name))?;
+fn lists(programs: &str, list: &List, n: u32, seed: u32) -> Result<(), String> {
+    let program = found(programs, &format!("replay_{}", list.name))?;
     two_at_a_time(n as usize, |k| {
         let seed = seed.wrapping_add((k as u32).wrapping_mul(0x9e37_79b9));
         let said = |text: String| format!("oracle {} {seed}: {text}", list.name);
@@ -154,10 +153,10 @@ fn lists(folder: &str, list: &List, n: u32, seed: u32) -> Result<(), String> {
 }
 
 /// Compares all of it, and prints what was compared. A failure names the scene or the list.
-pub fn all(folder: &str, n: u32, seed: u32) -> Result<(), String> {
-    scenes(folder, n, seed)?;
+pub fn all(programs: &str, n: u32, seed: u32) -> Result<(), String> {
+    scenes(programs, n, seed)?;
     for list in &LISTS {
-        lists(folder, list, n.div_ceil(list.share), seed)?;
+        lists(programs, list, n.div_ceil(list.share), seed)?;
     }
     Ok(())
 }

@@ -4,10 +4,9 @@
 use crate::frame;
 use crate::generator::Generator;
 use crate::kinds::{KINDS, Kind, scene};
-use crate::program::{Feed, Input, found, run, two_at_a_time};
+use crate::program::{Feed, Input, Program, found, run, two_at_a_time};
 use crate::scene::{COUNTER, COUNTS, FIELD, SIZE, read, start};
 use std::collections::BTreeMap;
-use std::path::Path;
 
 /// What damages are made of: a sound scene, and the seed of everything that is drawn.
 struct Sound {
@@ -300,7 +299,7 @@ fn long(sound: &Sound, k: usize) -> Input {
 }
 
 /// The answer's number, 0 for a plate, after both programs gave it.
-fn one(frame: &Path, check: &Path, input: &Input) -> Result<u8, String> {
+fn one(frame: &Program, check: &Program, input: &Input) -> Result<u8, String> {
     let refusal = read(&input.bytes).err();
     let wants = frame::answer(&input.bytes);
     let has = run(frame, input)?;
@@ -315,17 +314,20 @@ fn one(frame: &Path, check: &Path, input: &Input) -> Result<u8, String> {
     }
 }
 
-/// Feeds all of it, and prints what was fed. A failure's input is kept in a file.
-pub fn all(folder: &str, seed: u32) -> Result<(), String> {
-    let frame = found(folder, "frame")?;
-    let check = found(folder, "check_scene")?;
+/// Feeds all of it, or of each family this many spread over it, and prints what was fed. A failure's input is
+/// kept in a file.
+pub fn all(programs: &str, seed: u32, most: usize) -> Result<(), String> {
+    let frame = found(programs, "frame")?;
+    let check = found(programs, "check_scene")?;
     let sound = Sound {
         bytes: scene(Kind::Picture, seed).bytes(),
         seed,
     };
     let mut all = BTreeMap::new();
     for family in &FAMILIES {
-        let answers = two_at_a_time(family.inputs, |k| {
+        let fed = family.inputs.min(most);
+        let answers = two_at_a_time(fed, |n| {
+            let k = n * family.inputs / fed + n % (family.inputs / fed);
             let input = (family.make)(&sound, k);
             one(&frame, &check, &input).map_err(|text| {
                 let kept = std::env::temp_dir().join(format!("damage-{}", std::process::id()));
@@ -342,14 +344,9 @@ pub fn all(folder: &str, seed: u32) -> Result<(), String> {
             *counts.entry(number).or_insert(0) += 1;
             *all.entry(number).or_insert(0) += 1;
         }
-        println!(
-            "{}: {} inputs: {}",
-            family.name,
-            family.inputs,
-            told(&counts)
-        );
+        println!("{}: {fed} inputs: {}", family.name, told(&counts));
     }
-    let inputs: usize = FAMILIES.iter().map(|family| family.inputs).sum();
+    let inputs: usize = all.values().sum();
     println!(
         "all, seed {seed}: {inputs} inputs to both programs: {}",
         told(&all)

@@ -33,8 +33,9 @@ const USAGE: &str = "usage: oracle colour | tiles | registers | oam | outside
                                  interlace, blank, picture
        oracle frame              what the frame program writes for the scene on standard input
        oracle often              what draw_often writes for the count and the scene on standard input
-       oracle compare FOLDER SCENES SEED
-       oracle damage FOLDER SEED";
+       oracle compare PROGRAMS SCENES SEED
+       oracle damage PROGRAMS SEED [MOST]
+PROGRAMS is a folder of programs, or a script that runs the program that it is given the name of.";
 
 /// All of the standard input.
 fn given() -> Result<Vec<u8>, String> {
@@ -60,13 +61,18 @@ fn answer(words: &[&str]) -> Option<Result<Vec<u8>, String>> {
             let digest = given().and_then(|bytes| often::digest(&bytes));
             return Some(digest.map(String::into_bytes));
         }
-        ["compare", folder, scenes, seed] => {
+        ["compare", programs, scenes, seed] => {
             let scenes: NonZero<u32> = scenes.parse().ok()?;
-            let compared = compare::all(folder, scenes.get(), seed.parse().ok()?);
+            let compared = compare::all(programs, scenes.get(), seed.parse().ok()?);
             return Some(compared.map(|()| Vec::new()));
         }
-        ["damage", folder, seed] => {
-            let fed = damage::all(folder, seed.parse().ok()?);
+        ["damage", programs, seed, ref most @ ..] => {
+            let most = match *most {
+                [] => usize::MAX,
+                [most] => most.parse::<NonZero<usize>>().ok()?.get(),
+                _ => return None,
+            };
+            let fed = damage::all(programs, seed.parse().ok()?, most);
             return Some(fed.map(|()| Vec::new()));
         }
         [name, ref rest @ ..] => {

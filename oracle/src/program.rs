@@ -56,14 +56,35 @@ impl Input {
     }
 }
 
+/// A program: the file to start, and the word to give it where that is a script that runs any program.
+pub struct Program {
+    file: PathBuf,
+    word: Option<String>,
+}
+
+/// The program of this name: one of a folder of programs, or what a script runs for its name.
+pub fn found(programs: &str, name: &str) -> Result<Program, String> {
+    let script = Path::new(programs);
+    let (file, word) = match script.is_file() {
+        true => (script.to_path_buf(), Some(name.to_string())),
+        false => (script.join(name), None),
+    };
+    match file.is_file() {
+        true => Ok(Program { file, word }),
+        false => Err(format!("{} is not there", file.display())),
+    }
+}
+
 /// What a program writes. Any other status than 0, and anything on its standard error, is a failure.
-pub fn run(program: &Path, input: &Input) -> Result<Vec<u8>, String> {
-    let failed = |e: io::Error| format!("{}: {e}", program.display());
+pub fn run(program: &Program, input: &Input) -> Result<Vec<u8>, String> {
+    let name = program.file.display();
+    let failed = |e: io::Error| format!("{name}: {e}");
     let stdin = match input.feed {
         Feed::File(name) => File::open(name).map_err(failed)?.into(),
         _ => Stdio::piped(),
     };
-    let mut child = Command::new(program)
+    let mut child = Command::new(&program.file)
+        .args(&program.word)
         .stdin(stdin)
         .stdout(Stdio::piped())
         .stderr(Stdio::piped())
@@ -77,29 +98,15 @@ pub fn run(program: &Path, input: &Input) -> Result<Vec<u8>, String> {
         child.wait_with_output()
     });
     let done = done.map_err(failed)?;
+    let said = String::from_utf8_lossy(&done.stderr);
+    let said = said.trim_end();
     if done.status.code() != Some(0) {
-        return Err(format!("{}: {}", program.display(), done.status));
+        return Err(format!("{name}: {}: {said}", done.status));
     }
     if !done.stderr.is_empty() {
-        let said = String::from_utf8_lossy(&done.stderr);
-        return Err(format!(
-            "{}: on its standard error: {said}",
-            program.display()
-        ));
+        return Err(format!("{name}: on its standard error: {said}"));
     }
     Ok(done.stdout)
-}
-
-/// A program of this folder, if it is there.
-pub fn found(folder: &str, name: &str) -> Result<PathBuf, String> {
-    let program = Path::new(folder).join(name);
-    match program.is_file() {
-        true => Ok(program),
-        false => Err(format!(
-            "{} is not there: rt check {name}",
-            program.display()
-        )),
-    }
 }
 
 /// Does each job below n, two at a time, and hands back what they found, in no order. The first failure
