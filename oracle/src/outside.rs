@@ -1,4 +1,4 @@
-//! The list `outside`: what the Rust does outside document 01's domain, a line for each case.
+//! The list `outside`: what the Rust does on inputs that the rules do not cover, a line for each case.
 //!
 //! It depends on the build: a debug build stops at a sum that overflows, a release build goes on.
 
@@ -228,7 +228,7 @@ fn walked(mosaic: u8, counter: u8, scanline: u16) -> u8 {
     ppu.mosaic_vcounter
 }
 
-/// The counters for which the Rust's step after row 0 is another than document 01's.
+/// The counters for which the Rust's step after row 0 is another than that of the rules.
 fn apart(mosaic: u8) -> Vec<u8> {
     (0..=16)
         .filter(|counter| walked(mosaic, *counter, 1) != stepped(mosaic, *counter))
@@ -254,7 +254,7 @@ fn rows_apart(mosaic: u8, counter: u8) -> Vec<u32> {
         .collect()
 }
 
-/// The Rust's own walk of the mosaic counter beside document 01's.
+/// The Rust's own walk of the mosaic counter beside that of the rules.
 fn counters() -> String {
     let mut out = String::new();
     for (mosaic, counter) in [(0x00, 0), (0x00, 1), (0x01, 0), (0x01, 1)] {

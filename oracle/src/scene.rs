@@ -1,4 +1,4 @@
-//! The scene file, as document 01 has it: what a scene holds, its bytes, and a reader that refuses.
+//! The scene file, as the rules have it: what a scene holds, its bytes, and a reader that refuses.
 
 use crate::oam::{Bytes, loaded};
 use crate::screen::Screen;

@@ -312,7 +312,7 @@ pub(crate) fn without(cells: [u64; 112]) -> [u64; 112] {
     c
 }
 
-// The cells after a statement. What is lent is lent for a line.
+// The cells after a statement. The lengths that are lent hold for one line.
 pub(crate) fn after(cells: [u64; 112], line: bool) -> [u64; 112] {
     if !line {
         return cells;

@@ -54,7 +54,7 @@ fn with_sub(lines: Lines, n: u64, c: [u64; 112]) -> Lines {
     Lines { main, sub }
 }
 
-// The columns in which one of the lines is no more what it was.
+// The columns in which one of the lines changed.
 fn changed(before: Lines, after: Lines) -> u64 {
     let main = before.main;
     let sub = before.sub;

@@ -47,7 +47,7 @@ fn beyond(at: usize, next: usize) -> usize
     if at < next { next } else { at + 1 }
 }
 
-// A statement that nothing understands is answered with its line.
+// A statement that was not understood is answered with its line.
 fn judge(q: Statement) {
     if q.bad {
         let numbers = [q.cells[cells::LINE]];
@@ -62,7 +62,7 @@ struct Turn {
     at: usize,
 }
 
-// Writes the answer to a statement that asks nothing of the memories but to be read.
+// Writes the answer to a statement that only reads the memories.
 fn answer(lines: Lines, vram: &[u16], cgram: &[u16], oam: &[u8], q: Statement) -> Lines {
     let verb = q.verb;
     let list = q.list;

@@ -16,8 +16,8 @@ fn planes(index: u16, pair: u16) -> u16
     }
 }
 
-// VRAM in which a tile of 4bpp tells what it is: the indexes of its row are both digits of its number,
-// 8 and the row, 1 and the table (of 256 tiles, from word 0 on), and 4 to 7.
+// VRAM in which a tile of 4bpp shows which it is: the indexes of its row are both digits of its number,
+// 8 plus the row, 1 plus the table (of 256 tiles, from word 0 on), and 4 to 7.
 fn told(at: u16) -> u16 {
     let pair = at / 8 % 2;
     let number = planes(at / 256 % 16, pair) + planes(at / 16 % 16, pair) / 2;

@@ -47,7 +47,7 @@ fn copy(oam: &[u8]) -> [u8; 545] {
     out
 }
 
-// The bytes that are no more what they were.
+// The bytes that changed.
 fn changed(before: [u8; 545], oam: &[u8]) {
     for i in 0..545usize {
         if i < oam.len() {

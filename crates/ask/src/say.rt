@@ -32,10 +32,10 @@ pub(crate) const MINUS: u64 = 0x300000000;
 // A byte in two digits.
 pub(crate) const DIGITS: u64 = 0x400000000;
 
-// Nothing: of the text before it, that is all.
+// Nothing: only the text before it is written.
 const NOTHING: u64 = 0x500000000;
 
-// Left out, and the text before it with it.
+// Left out, together with the text before it.
 pub(crate) const LEFT_OUT: u64 = 0x600000000;
 
 // Writes a part of a text.
@@ -194,7 +194,7 @@ pub(crate) fn candidates(answer: CandidatesAnswer) {
     }
 }
 
-// The bytes of a lent row or picture, each 7 before: how many are no more 7, the first of them or the
+// The bytes of a lent row or picture, each 7 before: how many changed, the first of them or the
 // length, how many are 0, and how many are a value.
 fn counts(lent: &[u8], value: u8) {
     let mut changed: u64 = 0;

@@ -21,7 +21,7 @@ pub(crate) struct Statement {
 // The verb that forgets what was set.
 const NEW: usize = 4;
 
-// A verb that there is not, and no verb.
+// An unknown verb, and no verb.
 const UNKNOWN: usize = 51;
 
 const NOTHING: usize = 52;
@@ -150,7 +150,7 @@ pub(crate) fn read(s: &[u8], from: usize, kept: [u64; 112]) -> Statement {
     let a = seek(s, from, Stop::Word);
     let b = seek(s, a, Stop::End);
     let q = whole(s, begun(kept, verb_of(s, a, b), b));
-    // What was not understood says nothing, and neither does the rest of its line.
+    // What was not understood does nothing, and neither does the rest of its line.
     if q.bad | q.more {
         return begun(kept, UNKNOWN, seek(s, from, Stop::Line));
     }

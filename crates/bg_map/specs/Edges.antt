@@ -1,4 +1,4 @@
--- Document 01's worked values on maps.
+-- The edges of the rules on maps.
 use mathlib.Core.Path.{_≡_, refl}
 use mathlib.Core.Bool.{true, false, cond}
 use lib.IntN.{pos, _+ℤ_, _-ℤ_}

@@ -1,4 +1,4 @@
--- A row of the map's tiles: what a row of the screen knows of the map before its columns. Nothing here is needed to know what
+-- A row of the map's tiles: what is known of the map for a whole row of the screen. Nothing here is needed to know what
 -- the map is; Map.antt says that.
 use Prim.Native.Nat.{ℕ, _+_, _*_, _/_, _%_}
 use mathlib.Core.Path.{_≡_, ap}

@@ -8,7 +8,7 @@ use tiles::BitDepth;
 ghost use mathlib.Core.Path.{_≡_};
 ghost use Rattle.bg_map.specs.Map.{entryOf};
 
-// What a background's row is drawn by, beside the registers that all backgrounds share.
+// What a background's row is drawn from, beside the registers that all backgrounds share.
 pub struct BgParams {
     // Word address of the map.
     pub tilemap_base: u16,
@@ -17,7 +17,7 @@ pub struct BgParams {
     pub scroll_x: u16,
     pub scroll_y: u16,
     pub bpp: BitDepth,
-    // Has the background 32 colours of its own, from 32b on? So in mode 0.
+    // Has the background 32 colours of its own, from 32b on? In mode 0 it has.
     pub own_palettes: bool,
     // Is the map 64 tiles wide, and not 32?
     pub w64: bool,

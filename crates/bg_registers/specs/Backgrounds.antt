@@ -21,7 +21,7 @@ tileBase r b = nibbleOf (r .bg12nba) (r .bg34nba) b % 8 * 4096
 abbrev pub mapSize : PPURegisters → ℕ → MapSize
 mapSize r b = record { w64 = bitOf (getD (r .bgsc) b 0) 0; h64 = bitOf (getD (r .bgsc) b 0) 1 }
 
--- of four numbers, BG1's apart from the others', background b's
+-- background b's of four numbers, of which BG1's is held apart
 abbrev pub ofFour : ℕ → List ℕ → ℕ → ℕ
 ofFour first others b = cond (eqb b 0) first (getD others (b - 1) 0)
 

@@ -32,7 +32,7 @@ pub fn bg_tilemap_size(r: PPURegisters, bg: usize) -> MapSize
     }
 }
 
-// Of four numbers, BG1's apart from the others', the one of background bg.
+// Background bg's of four numbers, of which BG1's is held apart.
 fn one_of_four(first: u16, others: [u16; 3], bg: usize) -> u16
     requires { ⌜ bg < 4 ⌝ }
     ensures { λ n. ⌜ n ≡ ofFour first others bg ⌝ }

@@ -1,4 +1,4 @@
-// What document 01 reads of a background from the registers: map, tiles and scroll.
+// What is read of a background from the registers: map, tiles and scroll.
 //
 // Follows registers.rs, with its names. A public call tests its own arguments and then
 // asks `inner`, where the work is done.

@@ -15,7 +15,7 @@ use Rattle.bg_tile.specs.Tile.{pixelAt}
 unfoldable pub bgPixel : List ℕ → List ℕ → PPURegisters → BgParams → ℕ → ℕ → Candidate
 bgPixel v g r p y x = pixelAt v g p (directColour r) (sourceColumn r p x) (sourceLine r p y)
 
--- what the tests leave for the work
+-- what is known once the tests are passed
 pub record BgRowSound (colours : ℕ) (layer : Layer) (y : ℕ) : Type 0 where
   pub whole : colours ≡ 256
   pub background : backgroundOf layer < 4

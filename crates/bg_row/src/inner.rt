@@ -1,5 +1,5 @@
 // The row is decoded into cells, character by character, and what the columns show is taken from
-// there. What the row knows is found once.
+// there. What holds for the whole row is found once.
 use bg_map::BgParams;
 use bg_map::inner::extent;
 use bg_map::inner::map_row;

@@ -1,5 +1,5 @@
 // Says what the library's reader says of the scene on standard input. It holds one byte more than a
-// scene has, and so tells a longer one.
+// scene has, and so sees that a scene is longer.
 use refusal::Verdict;
 use say::refuse;
 

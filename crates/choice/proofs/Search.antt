@@ -1,5 +1,5 @@
 -- The loop of `choose`, as laws on lists: what one more place of the search does to the sprites found so far, and how the
--- choice is read off them.
+-- choice follows from them.
 use Prim.Native.Nat.{ℕ, _+_, _-_, _*_, _<_, _≤_}
 use mathlib.Core.Path.{_≡_, refl, sym, _∙_, ap}
 use mathlib.Core.Bool.{Bool, true, false}

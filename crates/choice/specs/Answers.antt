@@ -1,4 +1,4 @@
--- What the answer of this crate means: the paper's number or none, and the choice beside it.
+-- What the answer of this crate means: the refusal's number or none, and the choice beside it.
 use mathlib.Core.Path.{_≡_}
 use Rattle.refusal.specs.Answer.{Outcome}
 use Rattle.refusal.specs.Settled.{one-verdict}

@@ -1,4 +1,4 @@
--- Colour words, five bits a channel: direct colour, colour math, brightness.
+-- Colour words, five bits for each channel: direct colour, colour math, brightness.
 use Prim.Native.Nat.{ℕ, _+_, _-_, _*_, _/_, _%_, min}
 use mathlib.Core.Bool.{Bool, true, false, cond}
 use lib.Dec.{eqb, ltb}

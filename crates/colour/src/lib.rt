@@ -7,7 +7,7 @@ ghost use Rattle.refusal.specs.Answer.{value};
 ghost use Rattle.colour.specs.Colour.{directColour, mathOf, brightnessOf, ofBrightness};
 ghost use Rattle.colour.specs.Answers.{rgbMeans};
 
-// A colour of the picture, eight bits a channel.
+// A colour of the picture, eight bits for each channel.
 pub struct Rgb {
     pub red: u8,
     pub green: u8,

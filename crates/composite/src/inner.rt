@@ -1,5 +1,5 @@
-// What the public call of this crate stands on, and those of the crates above. Nothing of a row is
-// asked at its pixels: the registers are read once, and the colour window is made only where a region
+// What the public call of this crate stands on, and those of the crates above. Nothing is tested
+// at each pixel again: the registers are read once, and the colour window is made only where a region
 // asks for it.
 use blend::ColorMath;
 use blend::inner::by_window;

@@ -77,7 +77,7 @@ fn whole(
     d
 }
 
-// Draws the scene so many times, with another byte of each row each time, and once more with all.
+// Draws the scene that many times, with another byte of each row each time, and once more with all.
 // The digest begins at 1 and the row is not black before, so that a black row that is left out shows.
 pub(crate) fn often(vram: &[u16], cgram: &[u16], oam: &[u8], r: PPURegisters, times: u16) -> u32 {
     let mut row = [1u8; 768];

@@ -53,7 +53,7 @@ module _ (s : Scene) (y : ℕ) where
       (λ x h. no-ties-on-main s y x)
       (λ x h. no-ties-on-sub s y x)
 
-  -- The same of calls of `render_layer` with any numbers ks: each takes the lines that the one before left, and enters by its
+  -- The same of calls of `render_layer` with any numbers ks: each takes the lines that the one before left, and is known by its
   -- contract alone.
   pub data LayerCalls : Lines → List ℕ → Lines → Type 0 where
     none : {l : Lines} → LayerCalls l [] l
@@ -85,7 +85,7 @@ module _ (s : Scene) (y : ℕ) where
       let full = subst FullLines (sym laid) (full-laid (layerShown s k) (layerPixel s y k) l) in
       calls-lay t ks full r ∙ ap (layAll (layerShown s) (layerPixel s y) ks) laid
 
-  -- a run: calls from the lines that a call of `backdrop_lines` leaves, which enters by its contract too and was not refused
+  -- a run: calls from the lines that a call of `backdrop_lines` leaves, which is known by its contract too and was not refused
   pub record Run (ks : List ℕ) (m : Lines) : Type 0 where
     pub start : LinesAnswer
     pub begins : linesMean start ≡ backdropOutcome (s .cgram) (s .regs)

@@ -33,7 +33,7 @@ bars-sub true true m = refl
 bars-sub false true m = refl
 bars-sub a false m = refl
 
--- a candidate whose mark falls is laid as the candidate of a screen that does not show it
+-- a candidate whose opaque mark is cleared is laid as the candidate of a screen that does not show it
 same : (h : LinePixel) (o t : Bool) (p : LinePixel) →
     deposited h (marked t (record { opaque = o; pixel = p })) ≡ deposited h (onScreen t (record { opaque = o; pixel = p }))
 same h true true p = refl

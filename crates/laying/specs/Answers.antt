@@ -1,4 +1,4 @@
--- What each answer of this crate means, case by case: the value, or the paper's number. The calls that give them stand in the
+-- What each answer of this crate means, case by case: the value, or the refusal's number. The calls that give them stand in the
 -- crates above.
 use mathlib.Core.Path.{_≡_, refl}
 use Rattle.refusal.specs.Numbers.{numberOf}

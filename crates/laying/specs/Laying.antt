@@ -13,7 +13,7 @@ use Rattle.line.specs.Pixels.{noPixel, none, deposited}
 use Rattle.laying.specs.declared.Shown.{Shown}
 use Rattle.laying.specs.declared.Candidates.{Candidates}
 
--- a layer is shown at x of a screen that lights it, unless the screen has its window bar it and the mask holds x
+-- a layer is shown at x of a screen that lights it, unless its window is to bar it there and the mask holds x
 abbrev pub shownAt : Bool → Bool → Window → ℕ → Bool
 shownAt lit win w x = lit && not (win && masked w x)
 

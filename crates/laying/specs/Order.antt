@@ -150,7 +150,7 @@ module _ {S : Type 0} where
     abbrev pub subAt : ℕ → S → Candidate
     subAt x k = candidatesOf (shown k) x (row k x) .sub
 
-    -- Said once of a screen: how its line is taken of the lines, what its candidates are and in which colour it starts.
+    -- Said once of a screen: how its line is taken from the lines, what its candidates are and in which colour it starts.
     module _ (of : Lines → List LinePixel) (on : ℕ → S → Candidate) (colour : ℕ)
         (laid-on : (k : S) (lines : Lines) → of (layLines (shown k) (row k) lines) ≡ layLine (λ x. on x k) (of lines)) where
       screen-line : (ks : List S) (lines : Lines) → of (layAll ks lines) ≡ lays (λ k x. on x k) ks (of lines)

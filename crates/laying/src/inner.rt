@@ -35,7 +35,7 @@ pub fn mask(w: Window, on: bool) -> [bool; 256]
     out
 }
 
-// A candidate whose opaque mark falls where a mask bars it.
+// A candidate that is no longer opaque where a mask bars it.
 fn unless(c: Candidate, barred: bool) -> Candidate
     ensures { λ r. ⌜ r ≡ marked (not barred) c ⌝ }
 {
@@ -46,7 +46,7 @@ fn unless(c: Candidate, barred: bool) -> Candidate
     }
 }
 
-// A line after a row is laid, but for the columns that the mask bars, where it does.
+// A line after a row is laid, except at the columns that the mask bars, where it does.
 fn lay_line(
     line: [LinePixel; 256],
     row: [Candidate; 256],
@@ -78,7 +78,7 @@ pub fn lay_screen(
     line
 }
 
-// Does the window's mask hold x? It is asked only where it is on.
+// Does the window's mask hold x? It is tested only where it is on.
 pub fn masked_if(w: Window, on: bool, x: usize) -> bool
     ensures { λ r. ⌜ r ≡ on && masked w x ⌝ }
 {

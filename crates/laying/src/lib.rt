@@ -25,13 +25,13 @@ pub struct Candidates {
     pub sub: Candidate,
 }
 
-// What a call answers that is asked for a layer's candidates at a column.
+// The answer of a call for a layer's candidates at a column.
 pub enum CandidatesAnswer {
     Is(Candidates),
     Refused(Refusal),
 }
 
-// The verdict on a call, and the lines that it leaves: on a refusal those that came.
+// The verdict on a call, and the lines that it leaves: on a refusal those that it was given.
 pub struct LinesAnswer {
     pub verdict: Verdict,
     pub lines: Lines,
@@ -49,7 +49,7 @@ pub fn lay(lines: Lines, row: [Candidate; 256], s: Shown) -> Lines
     Lines { main, sub }
 }
 
-// The same of a row that has few opaque columns: the others are passed by.
+// The same of a row that has few opaque columns: the others are skipped.
 pub fn lay_few(lines: Lines, row: [Candidate; 256], s: Shown) -> Lines
     ensures { λ r. ⌜ r ≡ layLines s (rowOf row) lines ⌝ }
 {

@@ -23,7 +23,7 @@ spritePriority p = priority (3 + 3 * (p % 4))
 abbrev pub layerOf : ℕ → Layer
 layerOf b = cond (eqb b 0) Bg1 (cond (eqb b 1) Bg2 (cond (eqb b 2) Bg3 Bg4))
 
--- the background of a layer; the backdrop and the sprites are none, and 4 is the number of none
+-- the background of a layer; the backdrop and the sprites are no background, and have 4
 abbrev pub backgroundOf : Layer → ℕ
 backgroundOf Backdrop = 4
 backgroundOf Bg1 = 0

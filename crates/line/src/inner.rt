@@ -21,7 +21,7 @@ pub fn from_bg(bg: usize) -> Layer
     }
 }
 
-// The number of a layer's background; 4, which is none's, for the backdrop and the sprites.
+// The number of a layer's background; 4, which no background has, for the backdrop and the sprites.
 pub fn bg_index(layer: Layer) -> usize
     ensures { λ r. ⌜ r ≡ backgroundOf layer ⌝ }
 {

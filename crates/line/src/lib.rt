@@ -39,7 +39,7 @@ impl Layer {
     }
 }
 
-// How near a pixel is: the greater is in front. It is no number to its users, so that it cannot pass
+// How near a pixel is: the greater is in front. Its users see no number, so that it cannot pass
 // for a colour.
 pub struct Priority(u8);
 

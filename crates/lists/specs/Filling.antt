@@ -59,7 +59,7 @@ module _ {A : Type 0} where
         let e : x ≡ length l = omega arith in
         i .is ∙ rw (e, drop-length, append-nil, i .long)
 
-  -- The loop reads nothing of what it writes: the first x elements are the rule's. So for nested loops, whose inner one knows
+  -- The loop reads nothing of what it writes: the first x elements are the rule's. For nested loops, whose inner one knows
   -- the array only as it found it.
   pub record Front (n : ℕ) (f : ℕ → A) (out : List A) (x : ℕ) : Type 0 where
     pub long : length out ≡ n

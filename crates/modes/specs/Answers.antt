@@ -1,4 +1,4 @@
--- What each answer of this crate means, case by case: the value, or the paper's number.
+-- What each answer of this crate means, case by case: the value, or the refusal's number.
 use mathlib.Core.Path.{_≡_, refl}
 use Rattle.refusal.specs.Numbers.{numberOf}
 use Rattle.refusal.specs.Answer.{Answer, value, refused}

@@ -32,7 +32,7 @@ const MODE_0: [BgMode; 4] = [MODE_0_BG1, MODE_0_BG2, MODE_0_BG3, MODE_0_BG4];
 
 const MODE_1: [BgMode; 4] = [MODE_1_BG1, MODE_1_BG2, MODE_1_BG3, LACKS];
 
-// Mode 1 with bgmode bit 3: BG3's high priority is before all others.
+// Mode 1 with bgmode bit 3: BG3's high priority is greater than all others.
 const MODE_1_LIFTED: [BgMode; 4] = [MODE_1_BG1, MODE_1_BG2, MODE_1_BG3_LIFTED, LACKS];
 
 const MODE_3: [BgMode; 4] = [MODE_3_BG1, MODE_3_BG2, LACKS, LACKS];

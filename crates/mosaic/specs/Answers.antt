@@ -1,4 +1,4 @@
--- What the answer of this crate means, case by case: the value, or the paper's number.
+-- What the answer of this crate means, case by case: the value, or the refusal's number.
 use mathlib.Core.Path.{_≡_, refl}
 use lib.IntN.{ℤ}
 use Rattle.refusal.specs.Numbers.{numberOf}

@@ -25,7 +25,7 @@ blockIf on r = cond on (mosaicSize r) 1
 abbrev pub offsetIf : Bool → PPURegisters → ℤ
 offsetIf on r = cond on (voffset r) (pos 0)
 
--- so for background b
+-- the same for background b
 abbrev pub blockOf : PPURegisters → ℕ → ℕ
 blockOf r b = blockIf (mosaicOn r b) r
 

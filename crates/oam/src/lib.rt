@@ -1,5 +1,5 @@
 // Sprite memory: 544 bytes that describe 128 sprites. Follows oam.rs, with its names. What it says
-// of a row stands in the crates sprite_row and choice, its data port in oam_port.
+// of a row stands in the crates sprite_row and sprite_choice, its data port in oam_port.
 pub mod inner;
 
 use refusal::Refusal;

@@ -1,4 +1,4 @@
--- What the answers of this crate mean, case by case: the value or the paper's number, and the machine beside it.
+-- What the answers of this crate mean, case by case: the value or the refusal's number, and the machine beside it.
 use Prim.Native.Nat.{ℕ}
 use mathlib.Core.Path.{_≡_, refl}
 use mathlib.Core.List.{List}

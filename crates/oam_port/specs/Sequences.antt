@@ -1,5 +1,5 @@
--- Calls one after another. Each does and says what the machine does and says, so that whoever makes a sequence of calls
--- has before him a machine of one memory, one address and one latch.
+-- Calls one after another. Each does and says what the machine does and says, so that a caller who makes a sequence of calls
+-- sees a machine of one memory, one address and one latch.
 use Prim.Native.Nat.{ℕ}
 use mathlib.Core.Path.{_≡_, refl, ap, ap₂, _∙_}
 use mathlib.Core.List.{List, [], _∷_}

@@ -99,7 +99,7 @@ sound-spoken (dataWrite v) m s =
     subst (λ (o : Outcome Unit Machine). Spoken (written (o .said))) (sym (wrote-sound s v)) tt
 sound-spoken dataRead m s = subst (λ (o : Outcome ℕ Machine). Spoken (byte (o .said))) (sym (read-sound s)) tt
 
--- so for every sequence
+-- the same for every sequence
 pub sound-run : (l : List Access) (m : Machine) → Sound m → Sound (run step l m)
 sound-run = run-keeps step Sound sound-step
 

@@ -5,7 +5,7 @@ ghost use Prim.Native.Nat.{_<_};
 ghost use lib.ListN.{length};
 ghost use Rattle.oam_port.specs.Port.{byteAt, byteOf, machine, setAddress, store, move};
 
-// The byte that an address means: from 512 on the second table's 32 bytes, again and again.
+// The byte that an address means: from 512 on the second table's 32 bytes, repeated.
 fn byte_number(address: u16) -> usize
     requires { ⌜ address < 1024 ⌝ }
     ensures { λ r. ⌜ (r ≡ byteAt address) × (r < 544) ⌝ }

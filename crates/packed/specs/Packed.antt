@@ -10,7 +10,7 @@ use Rattle.line.specs.declared.Priority.{Priority}
 use Rattle.line.specs.declared.LinePixel.{LinePixel}
 use Rattle.line.specs.declared.Candidate.{Candidate}
 
--- what colour math asks of a pixel: its bit of cgadsub, and 6, which is none, for a sprite without the math mark
+-- what colour math needs of a pixel: its bit of cgadsub, or 6, which is no such bit, for a sprite without the math mark
 abbrev pub codeOf : Layer → Bool → ℕ
 codeOf Bg1 mark = 0
 codeOf Bg2 mark = 1
@@ -49,7 +49,7 @@ heldAfter held c = cond (leb (held / rankPlace) (c / rankPlace)) c held
 abbrev pub heldUnless : Bool → ℕ → ℕ → ℕ
 heldUnless barred held c = heldAfter held (cond barred 0 c)
 
--- column x of a line: the rows of five layers over a backdrop, each but for the columns that are barred to it
+-- column x of a line: the rows of five layers over a backdrop, each except at the columns that are barred for it
 unfoldable pub lineRule : ℕ → List ℕ → List Bool → List ℕ → List Bool → List ℕ → List Bool → List ℕ → List Bool → List ℕ → List Bool → ℕ → ℕ
 lineRule back bg1 bg1Barred bg2 bg2Barred bg3 bg3Barred bg4 bg4Barred obj objBarred x =
     heldUnless (getD objBarred x false)

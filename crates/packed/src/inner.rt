@@ -91,8 +91,8 @@ fn lay_five(
     lay_unless(obj_barred, fourth, obj)
 }
 
-// A line of one screen: the rows of the five layers over a backdrop, each but for the columns that are
-// barred to it.
+// A line of one screen: the rows of the five layers over a backdrop, each except at the columns that are
+// barred for it.
 pub fn line(
     back: u32,
     bg1: &[u32],

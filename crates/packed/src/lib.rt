@@ -1,3 +1,3 @@
-// Pixels as numbers. A whole row lays its lines so: a line of numbers is laid by selects, many columns
-// at once, which a line of pixels is not.
+// Pixels as numbers, for whole rows: a line of numbers is laid by selects, for many columns at once; a
+// line of pixels is laid one by one.
 pub mod inner;

@@ -101,8 +101,8 @@ fn shifted(out: &mut [u32], cells: &[u32], fine: usize)
 }
 
 // The line that mosaic makes of the cells: each column shows the first of its block. Every block is
-// written as one of 16, the largest; the next is written over what is too much, and 16 columns more
-// than are shown take the last.
+// written 16 wide, the largest size; the next one is written over the rest, and 16 columns more than
+// are shown take the end of the last.
 fn blocks(cells: &[u32], fine: usize, block: usize) -> [u32; 272]
     requires { ⌜ (length (now cells) ≡ 264) × ((fine < 8) × ((0 < block) × (block ≤ 16))) ⌝ }
     ensures { λ r. ⌜ take 256 r ≡ tab 256 (λ x. getD (now (cells .entry)) (x - x % block + fine) 0) ⌝ }

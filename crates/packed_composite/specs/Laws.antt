@@ -21,7 +21,7 @@ use Rattle.packed_composite.specs.Blended.{blended}
 abbrev pub low16 : ℕ → ℕ
 low16 c = c % 65536
 
--- the backdrop is told by its code
+-- the backdrop is known by its code
 clear-is : (l : Layer) (m : Bool) → eqb (codeOf l m) 5 ≡ isBackdrop l
 clear-is Bg1 m = refl
 clear-is Bg2 m = refl

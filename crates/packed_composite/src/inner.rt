@@ -1,4 +1,4 @@
-// What a whole row asks of colour math. What the row knows is found once.
+// What a whole row asks of colour math. What holds for the whole row is found once.
 use blend::ColorMath;
 use blend::inner::region;
 use colour::color_math;

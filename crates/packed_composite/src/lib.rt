@@ -1,2 +1,2 @@
-// Colour math over packed lines. Follows blend and composite, with numbers for pixels.
+// Colour math over packed lines. Follows row_blend and row_composite, with numbers for pixels.
 pub mod inner;

@@ -27,7 +27,7 @@ sprite-shade colours palette z c h e =
 some : (p : LinePixel) → eqb (packed p) 0 ≡ false
 some p = ne-eqb (packed p) 0 (λ e. omega (arith, rank-of p))
 
--- so what is drawn over it is told by 0
+-- so 0 says that nothing is drawn over it
 by-opaque : (o : Bool) (p : LinePixel) (h : Candidate) →
     cond (not (eqb (packedIf (record { opaque = o; pixel = p })) 0)) (packedIf (record { opaque = o; pixel = p })) (packedIf h)
     ≡ packedIf (cond o (record { opaque = o; pixel = p }) h)

@@ -77,7 +77,7 @@ fn middle(line: &[u32]) -> [u32; 256]
     out
 }
 
-// The sprite line. A tile that meets the picture is drawn whole, for the line has room for the rest
+// The sprite line. A tile that meets the picture is drawn whole: the line has room for the rest
 // of it.
 fn draw(f: Fetched, vram: &[u16], g: &[u32]) -> [u32; 256]
     requires { ⌜ (length (now g) ≡ 256) × ((f .count ≤ 34) × AllSound (f .count) (f .rows)) ⌝ }

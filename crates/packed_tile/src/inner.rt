@@ -68,7 +68,7 @@ fn index_eight(w0: u16, w1: u16, w2: u16, w3: u16, col: u32) -> u32
 }
 
 // The columns of a tile's row in the order in which they are shown. They are found before the
-// pixels, so that the pixels' loop asks nothing of the flip.
+// pixels, so that the pixels' loop does not test the flip.
 fn turned(flip: bool) -> [u32; 8]
     ensures { λ r. ⌜ r ≡ tab 8 (λ k. mirrored k 8 flip) ⌝ }
 {

@@ -121,7 +121,7 @@ pub drawn-again : (ds : List Drawing) (d : Drawing) (p : List ℕ) → Whole p �
     rowPart (drawAll (ds ++ d ∷ []) p) (d .row) ≡ bytesOf d
 drawn-again ds d p w r h = last-shows (ds ++ d ∷ []) p w r (d .row) h ∙ ends ds d (rowPart p (d .row))
 
--- The same of calls of `render_into_picture` with any drawings ds: each takes the picture that the one before left, and enters
+-- The same of calls of `render_into_picture` with any drawings ds: each takes the picture that the one before left, and is known
 -- by its contract alone.
 pub data DrawCalls : List ℕ → List Drawing → List ℕ → Type 0 where
   none : {p : List ℕ} → DrawCalls p [] p

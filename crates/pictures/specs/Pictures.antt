@@ -13,7 +13,7 @@ use Rattle.row_tests.specs.Tests.{partTests}
 abbrev pub pictureTests : ℕ → ℕ → ℕ → ℕ → Answer Unit
 pictureTests first second choice y = partTests y (eqb first 172032 && eqb second 172032) (ltb choice 2)
 
--- what they leave for the work
+-- what is known once they are passed
 pub record PicturesTested (first second choice y : ℕ) : Type 0 where
   pub row : y < 224
   pub whole : first ≡ 172032

@@ -1,4 +1,4 @@
--- What is said of the bytes that were read, said on.
+-- What is said of the bytes that were read, handed on.
 use Prim.Native.Nat.{ℕ}
 use mathlib.Core.Path.{_≡_, sym, ap, _∙_}
 use mathlib.Core.List.{List}
@@ -18,7 +18,7 @@ read-fine r e = record {
   holds = λ more f p. r .holds more f (passed e);
 }
 
--- what is said of the bytes that were read is said on
+-- what is said of the bytes that were read is handed on
 pub read-told : {tests : List ℕ → Answer Unit} {held : List ℕ → Type 0} {v w : Verdict} → ReadAs tests held v →
     verdictMeans w ≡ verdictMeans v → ReadAs tests (λ bytes. Unit) w
 read-told r e = record {

@@ -21,7 +21,7 @@ blank-frame s y e =
     let at = scene r (s .vram) (s .cgram) (s .oam) in
     λ i. cond (bitOf (e i) 7) blackRow (tab 768 (rowByteAt (colourAt r (sceneLines at y)) (brightnessOf r)))
 
--- so many rows are so many zeros
+-- n such rows are n times 768 zeros
 blank-rows : (s : Scene) → s .regs .inidisp ≡ 128 → (n : ℕ) → rowsOf s n ≡ tab (n * 768) (λ i. 0)
 unfolding rowsOf blackRow
 blank-rows s e zero = sym (tab-none (λ (i : ℕ). 0))

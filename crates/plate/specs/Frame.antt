@@ -43,17 +43,17 @@ pub record Part (s : Scene) (at : ℕ) (bytes : List ℕ) : Type 0 where
   pub is : bytes ≡ take (length bytes) (drop at (plateOf s))
   pub within : at + length bytes ≤ 172047
 
--- k bytes that are handed on from byte `at` on bring the plate to n: behind them, or no further
+-- k bytes are handed on from byte `at` on, and the plate has come to n: behind them, or no further
 abbrev pub Come : ℕ → ℕ → ℕ → Type 0
 Come at k n = (n ≡ at + k) ⊎ (n ≡ at)
 
--- the plate has come to byte `at`: after its header and so many rows, of which the lent row holds the next, or the last
+-- the plate has come to byte `at`: after its header and a number of rows; the lent row holds the next one, or the last
 pub record Reached (s : Scene) (row : List ℕ) (at : ℕ) : Type 0 where
   pub rows : ℕ
   pub within : rows ≤ 224
   pub come : at ≡ 15 + rows * 768
   pub holds : row ≡ frameRow s (min rows 223)
 
--- what was taken of a plate: nothing, or its header and so many rows
+-- what was taken of a plate: nothing, or its header and a number of rows
 abbrev pub Taken : Scene → ℕ → Type 0
 Taken s n = (n ≡ 0) ⊎ ((row : List ℕ) × Reached s row n)

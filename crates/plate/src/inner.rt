@@ -63,8 +63,8 @@ pub fn draw_row(
     next_counter(r, counter)
 }
 
-// Hands on the bytes that a scene's plate has from byte `at` on, and says where it has come to. It is
-// handed the scene for what it asks of the bytes.
+// Hands on the bytes that a scene's plate has from byte `at` on, and says how far it has come. It is
+// given the scene only for what it requires of the bytes.
 pub fn hand(
     bytes: &mut [u8],
     vram: &[u16],
@@ -89,7 +89,7 @@ pub fn hand_line(bytes: &mut [u8], n: Refusal) -> Verdict
 }
 
 // Draws the rows, one after another into one lent row, and hands each on; stops where one is not
-// taken, and says where the plate has come to.
+// taken, and says how far the plate has come.
 pub fn walk(
     row: &mut [u8],
     vram: &[u16],

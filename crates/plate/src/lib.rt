@@ -45,7 +45,7 @@ fn show(vram: &[u16], cgram: &[u16], oam: &[u8], body: &[u8]) -> usize
     walk(&mut row, vram, cgram, oam, r, at)
 }
 
-// Says that a plate was not taken whole, where it was not, and answers whether it said so.
+// Says so where a plate was not taken whole, and answers whether it said so.
 fn complain(taken: usize) -> bool
     ensures { λ said. ⌜ said ≡ ltb taken 172047 ⌝ }
 {

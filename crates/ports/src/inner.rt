@@ -1,5 +1,5 @@
 // The one function that names a descriptor. What a descriptor brings, and where it leads, no contract
-// can say: the bytes that are lent here, and what is done with them, are proved by whoever lends them.
+// can say: the bytes that are lent here, and what is done with them, are proved by the caller.
 use crate::Way;
 ghost use Rattle.ports.specs.Moved.{AllOrNone, Moved};
 

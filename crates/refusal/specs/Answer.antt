@@ -1,4 +1,4 @@
--- What a call that may refuse answers, in the paper's own terms: a value, or a refusal's number.
+-- What a call that may refuse answers, in terms of the rules: a value, or a refusal's number.
 -- For each answer enum of a crate a definition gives its meaning here, case by case, and the promises use that definition.
 use Prim.Native.Nat.{ℕ}
 use mathlib.Core.Bool.{Bool, true, false}

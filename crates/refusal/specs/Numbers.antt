@@ -1,4 +1,4 @@
--- Document 01's refusal numbers.
+-- The numbers of the refusals.
 use Prim.Native.Nat.{ℕ}
 use mathlib.Core.Path.{_≡_, refl, sym, ap, _∙_}
 use mathlib.Core.Bool.{cond}

@@ -34,7 +34,7 @@ module _ {A X : Type 0} (is : A → X) (no : Refusal → X) (means : X → Answe
   settled (byRefusal r) (byRefusal s) e =
       ap no (one-number r s (same-number (sym (no-means r) ∙ (e ∙ no-means s))))
 
--- so for a verdict, which stands in an answer whose value is beside it
+-- the same for a verdict, which stands in an answer whose value is beside it
 made-verdict : (v : Verdict) → Made (λ (u : Unit {0}). Fine) Refused v
 made-verdict Fine = byValue tt
 made-verdict (Refused r) = byRefusal r

@@ -6,12 +6,12 @@ use Rattle.refusal.specs.declared.Refusal.{Refusal}
 use Rattle.refusal.specs.declared.Verdict.{Verdict}
 use Rattle.refusal.specs.declared.Verdict.the-variants.{Fine, Refused}
 
--- a verdict in the paper's terms
+-- what a verdict means
 abbrev pub verdictMeans : Verdict → Answer Unit
 verdictMeans Fine = value tt
 verdictMeans (Refused r) = refused (numberOf r)
 
--- the tests had nothing against the call
+-- the call passed its tests
 abbrev pub Passed : Verdict → Type 0
 Passed Fine = Unit
 Passed (Refused r) = ⊥

@@ -1,4 +1,4 @@
-// The refusals of document 01, a name for each number of its table.
+// The refusals of the rules, a name for each number.
 ghost use mathlib.Core.Path.{_≡_};
 ghost use Rattle.refusal.specs.Numbers.{numberOf};
 
@@ -28,7 +28,7 @@ pub enum Refusal {
 }
 
 impl Refusal {
-    // The number that document 01 gives this refusal.
+    // The number that the rules give this refusal.
     pub fn number(self) -> u8
         ensures { λ r. ⌜ r ≡ numberOf self ⌝ }
     {
@@ -48,7 +48,7 @@ impl Refusal {
     }
 }
 
-// What a call's tests say: nothing against it, or the first refusal that applies.
+// What a call's tests say: fine, or the first refusal that applies.
 pub enum Verdict {
     Fine,
     Refused(Refusal),

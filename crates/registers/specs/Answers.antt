@@ -1,4 +1,4 @@
--- What each answer of this crate means, case by case: the value, or the paper's number.
+-- What each answer of this crate means, case by case: the value, or the refusal's number.
 use Prim.Native.Nat.{ℕ}
 use mathlib.Core.Bool.{Bool}
 use mathlib.Core.Path.{_≡_, refl}

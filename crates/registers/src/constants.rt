@@ -1,4 +1,4 @@
-// The sizes that document 01 fixes, with the Rust's names where it has one.
+// The sizes that the rules fix, with the Rust's names where it has them.
 
 // Screen width in pixels.
 pub const SCREEN_WIDTH: usize = 256;

@@ -1,7 +1,7 @@
 // The registers by value, and what is read from them of the whole screen.
 //
 // Follows registers.rs and ppu.rs, with their names. What is read of a background and of a window
-// stands in the crates bg_registers and windows.
+// stands in the crates registers_bg and registers_windows.
 pub mod constants;
 pub mod inner;
 
@@ -12,7 +12,7 @@ ghost use Rattle.registers.specs.Answers.{boolMeans};
 ghost use Rattle.registers.specs.Screen.{cleared, modeOf, directColour, blanked, brightnessOf, spriteInterlace, layerBit};
 
 // The register values, in the scene file's order; then the mosaic counter (lines left in the
-// mosaic block) and the field (true in an odd frame), which document 01 takes as inputs.
+// mosaic block) and the field (true in an odd frame), which the rules take as inputs.
 pub struct PPURegisters {
     pub inidisp: u8,
     pub objsel: u8,
@@ -69,7 +69,7 @@ fn layer_bit(value: u8, layer: usize) -> BoolAnswer
 }
 
 impl PPURegisters {
-    // Every register cleared, the counter stopped and the field even.
+    // Every register cleared, the counter 0 and the field even.
     pub fn new() -> PPURegisters
         ensures { λ r. ⌜ r ≡ cleared ⌝ }
     {

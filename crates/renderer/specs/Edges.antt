@@ -1,4 +1,4 @@
--- Document 01's proved edges, one table: its lines marked P, both sides of each, in the document's order.
+-- The proved edges of the rules, one table: the rows marked P, both sides of each, in the order of the rules.
 use mathlib.Core.Path.{_≡_, refl}
 use mathlib.Core.Bool.{true, false}
 use Rattle.registers.specs.declared.PPURegisters.{PPURegisters}

@@ -1,5 +1,5 @@
 // What the public calls of this crate stand on. A whole row is drawn over packed pixels; step by step,
-// over lines of pixels, the layers are laid in the crate layers.
+// over lines of pixels, the layers are laid in the crate row_layers.
 use composite::inner::black;
 use composite::inner::brighten;
 use packed::inner::backdrop;

@@ -6,7 +6,7 @@ use replay::pixels::bare;
 use replay::pixels::compare;
 use replay::pixels::laid;
 
-// Column x of row y, which the lines hold so.
+// Column x of row y, as the lines hold it.
 fn column(
     vram: &[u16],
     cgram: &[u16; 256],

@@ -25,7 +25,7 @@ fn picture(registers: PPURegisters, turn: u8) -> PPURegisters {
     r
 }
 
-// The registers of a scene of a kind, for the turn-th time.
+// The registers of a scene of a kind; `turn` counts the scenes of that kind.
 pub(crate) fn turned(registers: PPURegisters, kind: u16, turn: u8) -> PPURegisters {
     let mut r = registers;
     match kind {

@@ -53,7 +53,7 @@ fn shown_lines(
     lines(sprites::render_sprites(before, vram, cgram, oam, r, y))
 }
 
-// Column x of row y, which the lines hold so, asked by itself.
+// Column x of row y, as the lines hold it, asked by itself.
 fn asked(
     vram: &[u16],
     cgram: &[u16; 256],

@@ -1,4 +1,4 @@
-// The text of a line, for whoever writes it.
+// The text of a line, for the programs that write it.
 use crate::Line;
 use refusal::Refusal;
 ghost use Rattle.refusal.specs.Numbers.{numberOf};

@@ -1,4 +1,4 @@
-// What the reader stands on, and what a program reads a scene by that does not hold it whole: the
+// What the reader stands on, and what a program uses that reads a scene piece by piece: the
 // tests of a count, of a body's length, of what follows the last section and of the two values.
 use crate::SCENE_BYTES;
 use oam::OAM_SIZE;

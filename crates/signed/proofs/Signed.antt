@@ -58,7 +58,7 @@ pub remainder-of : (w : Width) (z : ℤ) (m : ℕ) {r : ℕ} → mag z < 2 ^ hbi
     r ≡ remainder z m
 remainder-of w z m small e = e ∙ ap (λ (y : ℤ). remainder y m) (read-back w {z = z} {y = z} small refl)
 
--- so where 16 bits became 32 on the way
+-- the same where 16 bits became 32 on the way
 module _ (z : ℤ) (small : mag z < 2 ^ hbits w16) where
   fits : SFits w16 z
   fits = record { sfits = small }

@@ -24,7 +24,7 @@ module _ (v g : List ℕ) (view : View) (limit x : ℕ) where
   Clear (s ∷ l) later = (hasAt s (l ++ later) .opaque ≡ false) × Clear l later
 
   -- The sprite line shows the opaque pixel of a sprite before which no chosen sprite has one. What was chosen after it, and the
-  -- priority of any, has no say.
+  -- priority of any sprite, has no effect.
   pub first-chosen-wins : (l : List Sprite) (s : Sprite) (later : List Sprite) → Clear l (s ∷ later) → hasAt s later .opaque ≡ true →
       linePixel v g view limit (l ++ s ∷ later) x ≡ hasAt s later
   unfolding linePixel

@@ -27,7 +27,7 @@ linesOf size interlace = cond interlace (size .height / 2) (size .height)
 unfoldable pub meetsRow : ℕ → ℕ → Bool → Sprite → Bool
 meetsRow row objsel interlace s = ltb (lineOf row (s .y)) (linesOf (sizeIn objsel s) interlace)
 
--- at these nine bits a sprite of this width is wholly left of the picture, and passed over; 256 slips through
+-- at these nine bits a sprite of this width is wholly left of the picture, and passed over; at 256 it is not
 unfoldable pub passes : ℕ → ℕ → Bool
 passes x width = ltb 256 x && ltb (x + width - 1) 512
 

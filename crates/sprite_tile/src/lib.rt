@@ -4,7 +4,7 @@ pub mod inner;
 
 use tiles_row::TileRow;
 
-// What a row's sprites are seen by: objsel, the row, sprite interlace, and whether the field is odd.
+// How a row's sprites are seen: objsel, the row, sprite interlace, and whether the field is odd.
 // The row is a byte here: the calls above have refused a row above 223.
 pub struct View {
     pub objsel: u8,

@@ -1,4 +1,4 @@
--- What the answer of this crate means: the paper's number or none, and the sprite line beside it.
+-- What the answer of this crate means: the refusal's number or none, and the sprite line beside it.
 use mathlib.Core.Path.{_≡_}
 use mathlib.Core.List.{List}
 use Rattle.refusal.specs.Answer.{Outcome}

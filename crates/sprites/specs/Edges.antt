@@ -1,4 +1,4 @@
--- Document 01's lines on sprites, both sides of each edge: of every sprite that has the columns, the size and the flip named.
+-- The edges of the rules on sprites, both sides of each: of every sprite that has the columns, the size and the flip named.
 use Prim.Native.Nat.{ℕ, _+_, _*_, _/_, _%_, _<_, _≤_}
 use mathlib.Core.Path.{_≡_, refl, ap, _∙_}
 use mathlib.Core.Bool.{true, false, cond, _||_}

@@ -24,7 +24,7 @@ use Rattle.laying.specs.Laying.{candidatesOf, layLines}
 use Rattle.sprite_tile.specs.declared.View.{View}
 use Rattle.sprite_fetch.specs.Fetch.{linePixel}
 
--- what the sprites of row y are seen by
+-- what decides how row y shows sprites
 abbrev pub viewOf : PPURegisters → ℕ → View
 viewOf r y = record { objsel = r .objsel; row = y; «obj_interlace» = spriteInterlace r; field = r .field }
 

@@ -29,7 +29,7 @@ pub fn empty() -> [Candidate; 256]
     [none; 256]
 }
 
-// What the sprites of row y are seen by.
+// What decides how row y shows sprites.
 fn view(r: PPURegisters, y: usize) -> View
     requires { ⌜ y < 224 ⌝ }
     ensures { λ w. ⌜ w ≡ viewOf r y ⌝ }

@@ -1,4 +1,4 @@
-// A window by value. The crate windows answers whether one holds a column; `inner` does the work.
+// A window by value. The crate registers_windows answers whether one holds a column.
 pub mod inner;
 
 // The window of a layer, or the colour window: two ranges of columns, the bits that invert and
