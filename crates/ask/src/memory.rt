@@ -2,7 +2,7 @@
 use crate::cells;
 use crate::statement::Statement;
 use crate::statement::among;
-use digest::packed;
+use digest::second_table_byte;
 ghost use Prim.Native.Nat.{_≤_};
 
 // What an index has in a plane pair, at the tile's leftmost pixel.
@@ -124,7 +124,7 @@ fn with_sprites(before: u8, i: usize, n: u64, c: [u64; 112]) -> u8 {
 // A byte of the second table, with a sprite's bits where it is one that is written.
 fn part(byte: u8, sprite: usize, bits: u8, written: bool) -> u8 {
     if written {
-        return packed(byte, sprite, bits);
+        return second_table_byte(byte, sprite, bits);
     }
     byte
 }

@@ -5,7 +5,7 @@ use mathlib.Core.Bool.{Bool, true, false, _&&_}
 use mathlib.Core.List.{List}
 use native.Mathlib.Omega.{arith}
 use Rattle.registers.specs.declared.PPURegisters.{PPURegisters}
-use Rattle.registers.specs.Screen.{directColour}
+use Rattle.registers.specs.Screen.{directColourSet}
 use Rattle.mosaic.specs.Mosaic.{blockIf}
 use Rattle.bg_map.specs.declared.BgParams.{BgParams}
 use Rattle.bg_map.specs.Source.{extentOf, sourceColumn, sourceLine}
@@ -42,9 +42,9 @@ module _ (v g : List ℕ) (p : BgParams) (direct : Bool) (py : ℕ) where
 
 -- the cell that column x takes is the pixel that it shows
 pub cell-shown : (v g : List ℕ) (r : PPURegisters) (p : BgParams) (y x : ℕ) →
-    cellAt v g p (directColour r) (sourceLine r p y) (x - x % blockIf (p .mosaic) r + p .«scroll_x» % 8) ≡ bgPixel v g r p y x
+    cellAt v g p (directColourSet r) (sourceLine r p y) (x - x % blockIf (p .mosaic) r + p .«scroll_x» % 8) ≡ bgPixel v g r p y x
 unfolding cellAt bgPixel sourceColumn
 cell-shown v g r p y x =
     let n = x - x % blockIf (p .mosaic) r in
     let e : p .«scroll_x» / 8 * 8 + (n + p .«scroll_x» % 8) ≡ n + p .«scroll_x» = omega arith in
-    ap (λ (c : ℕ). pixelAt v g p (directColour r) (c % extentOf (p .w64) (p .tile16)) (sourceLine r p y)) e
+    ap (λ (c : ℕ). pixelAt v g p (directColourSet r) (c % extentOf (p .w64) (p .tile16)) (sourceLine r p y)) e

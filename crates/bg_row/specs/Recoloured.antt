@@ -41,4 +41,4 @@ module _ (f : ℕ → ℕ) (black : f 0 ≡ 0) (direct-kept : (i n : ℕ) → f 
       let px = sourceColumn r p x in
       let py = sourceLine r p y in
       let e = entryAt v p px py in
-      under-recoloured g p (screen.directColour r) e (bgIndexAt v p e px py)
+      under-recoloured g p (screen.directColourSet r) e (bgIndexAt v p e px py)

@@ -3,7 +3,7 @@ use Prim.Native.Nat.{ℕ, _<_}
 use mathlib.Core.Path.{_≡_}
 use mathlib.Core.List.{List}
 use Rattle.registers.specs.declared.PPURegisters.{PPURegisters}
-use Rattle.registers.specs.Screen.{directColour}
+use Rattle.registers.specs.Screen.{directColourSet}
 use Rattle.line.specs.declared.Candidate.{Candidate}
 use Rattle.line.specs.declared.Layer.{Layer}
 use Rattle.line.specs.Pixels.{backgroundOf}
@@ -13,7 +13,7 @@ use Rattle.bg_tile.specs.Tile.{pixelAt}
 
 -- the pixel of the map that column x of row y shows, and whether it is opaque
 unfoldable pub bgPixel : List ℕ → List ℕ → PPURegisters → BgParams → ℕ → ℕ → Candidate
-bgPixel v g r p y x = pixelAt v g p (directColour r) (sourceColumn r p x) (sourceLine r p y)
+bgPixel v g r p y x = pixelAt v g p (directColourSet r) (sourceColumn r p x) (sourceLine r p y)
 
 -- what is known once the tests are passed
 pub record BgRowSound (colours : ℕ) (layer : Layer) (y : ℕ) : Type 0 where

@@ -15,7 +15,7 @@ ghost use Prim.Native.Nat.{_+_, _-_, _%_, _<_, _≤_, min};
 ghost use lib.ListN.{length};
 ghost use Rattle.lists.specs.Tab.{tab};
 ghost use Rattle.line.specs.Pixels.{backgroundOf};
-ghost use Rattle.laying.specs.Laying.{rowOf};
+ghost use Rattle.laying.specs.Laying.{candidateIn};
 ghost use Rattle.bg_map.specs.Source.{extentOf};
 ghost use Rattle.bg_row.specs.Row.{BgRowSound, bgPixel};
 ghost use Rattle.bg_row.specs.Cells.{cellAt};
@@ -46,7 +46,7 @@ fn cells(vram: &[u16], cgram: &[u16], p: BgParams, direct: bool, py: usize) -> [
 // The cells that the columns show, the first at `fine`, without mosaic.
 fn shifted(cells: [Candidate; 264], fine: usize) -> [Candidate; 256]
     requires { ⌜ fine < 8 ⌝ }
-    ensures { λ r. ⌜ r ≡ tab 256 (λ x. rowOf cells (x + fine)) ⌝ }
+    ensures { λ r. ⌜ r ≡ tab 256 (λ x. candidateIn cells (x + fine)) ⌝ }
 {
     let none = Candidate::none();
     let mut out = [none; 256];
@@ -66,7 +66,7 @@ fn least(a: usize, b: usize) -> usize
 // The same with mosaic: each column shows the first of its block.
 fn blocks(cells: [Candidate; 264], fine: usize, block: usize) -> [Candidate; 256]
     requires { ⌜ (fine < 8) × ((0 < block) × (block ≤ 16)) ⌝ }
-    ensures { λ r. ⌜ r ≡ tab 256 (λ x. rowOf cells (x - x % block + fine)) ⌝ }
+    ensures { λ r. ⌜ r ≡ tab 256 (λ x. candidateIn cells (x - x % block + fine)) ⌝ }
 {
     let none = Candidate::none();
     let mut out = [none; 256];
@@ -84,7 +84,7 @@ fn blocks(cells: [Candidate; 264], fine: usize, block: usize) -> [Candidate; 256
 
 fn columns(cells: [Candidate; 264], fine: usize, block: usize) -> [Candidate; 256]
     requires { ⌜ (fine < 8) × ((0 < block) × (block ≤ 16)) ⌝ }
-    ensures { λ r. ⌜ r ≡ tab 256 (λ x. rowOf cells (x - x % block + fine)) ⌝ }
+    ensures { λ r. ⌜ r ≡ tab 256 (λ x. candidateIn cells (x - x % block + fine)) ⌝ }
 {
     if block == 1 {
         return shifted(cells, fine);

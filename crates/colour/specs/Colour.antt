@@ -15,12 +15,12 @@ greenOf c = c / 32 % 32
 abbrev pub blueOf : ℕ → ℕ
 blueOf c = c / 1024 % 32
 
-abbrev pub wordOf : ℕ → ℕ → ℕ → ℕ
-wordOf r g b = r + g * 32 + b * 1024
+abbrev pub colourWord : ℕ → ℕ → ℕ → ℕ
+colourWord r g b = r + g * 32 + b * 1024
 
 unfoldable pub directColour : ℕ → ℕ → ℕ
 directColour i p =
-    wordOf
+    colourWord
     (4 * (i % 8) + 2 * (p % 2))
     (4 * (i / 8 % 8) + 2 * (p / 2 % 2))
     (8 * (i / 64 % 4) + 4 * (p / 4 % 2))
@@ -40,7 +40,7 @@ channelOf m s subtract half = halved (mixed m s subtract) half
 
 unfoldable pub mathOf : ℕ → ℕ → Bool → Bool → ℕ
 mathOf m s subtract half =
-    wordOf
+    colourWord
     (channelOf (redOf m) (redOf s) subtract half)
     (channelOf (greenOf m) (greenOf s) subtract half)
     (channelOf (blueOf m) (blueOf s) subtract half)
@@ -53,8 +53,8 @@ scaled c b = c * (b + 1) / 16
 unfoldable pub light : ℕ → ℕ → ℕ
 light c b = cond (eqb b 0) 0 (scaled c b * 8 + scaled c b / 4)
 
-unfoldable pub brightnessOf : ℕ → ℕ → Rgb
-brightnessOf c b = record { red = light (redOf c) b; green = light (greenOf c) b; blue = light (blueOf c) b }
+unfoldable pub atBrightness : ℕ → ℕ → Rgb
+atBrightness c b = record { red = light (redOf c) b; green = light (greenOf c) b; blue = light (blueOf c) b }
 
 -- a brightness above 15 is refused 7
 abbrev pub ofBrightness : {A : Type 0} → ℕ → Answer A → Answer A

@@ -2,7 +2,7 @@
 use crate::Rgb;
 ghost use mathlib.Core.Path.{_≡_};
 ghost use Prim.Native.Nat.{_-_, _<_, _≤_, min};
-ghost use Rattle.colour.specs.Colour.{mixed, halved, channelOf, light, brightnessOf};
+ghost use Rattle.colour.specs.Colour.{mixed, halved, channelOf, light, atBrightness};
 
 // The smaller of two numbers.
 fn least(a: u16, b: u16) -> u16
@@ -58,7 +58,7 @@ pub fn lighten(c: u16, brightness: u16) -> u8
 
 pub fn apply_brightness(color: u16, brightness: u16) -> Rgb
     requires { ⌜ brightness < 16 ⌝ }
-    ensures { λ r. ⌜ r ≡ brightnessOf color brightness ⌝ }
+    ensures { λ r. ⌜ r ≡ atBrightness color brightness ⌝ }
 {
     Rgb {
         red: lighten(color % 32, brightness),

@@ -4,7 +4,7 @@ pub mod inner;
 use refusal::Refusal;
 ghost use mathlib.Core.Path.{_≡_};
 ghost use Rattle.refusal.specs.Answer.{value};
-ghost use Rattle.colour.specs.Colour.{directColour, mathOf, brightnessOf, ofBrightness};
+ghost use Rattle.colour.specs.Colour.{directColour, mathOf, atBrightness, ofBrightness};
 ghost use Rattle.colour.specs.Answers.{rgbMeans};
 
 // A colour of the picture, eight bits for each channel.
@@ -43,7 +43,7 @@ pub fn color_math(main: u16, sub: u16, subtract: bool, half: bool) -> u16
 
 // The colour as the picture has it, at a brightness of 0 to 15.
 pub fn apply_brightness(color: u16, brightness: u16) -> RgbAnswer
-    ensures { λ r. ⌜ rgbMeans r ≡ ofBrightness brightness (value (brightnessOf color brightness)) ⌝ }
+    ensures { λ r. ⌜ rgbMeans r ≡ ofBrightness brightness (value (atBrightness color brightness)) ⌝ }
 {
     if brightness < 16 {
         RgbAnswer::Is(inner::apply_brightness(color, brightness))

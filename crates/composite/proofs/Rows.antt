@@ -11,7 +11,7 @@ use Rattle.registers.specs.Screen as screen
 use Rattle.window.specs.declared.Window.{Window}
 use Rattle.window.specs.Window.{masked}
 use Rattle.windows.specs.Windows.{colourWindow}
-use Rattle.colour.specs.Colour.{brightnessOf}
+use Rattle.colour.specs.Colour.{atBrightness}
 use Rattle.line.specs.declared.Lines.{Lines}
 use Rattle.line.specs.Pixels.{noPixel}
 use Rattle.blend.specs.declared.ColorMath.{ColorMath}
@@ -31,7 +31,7 @@ module _ (r : PPURegisters) (lines : Lines) where
   unfolding rowBytes rowByteAt
   lit-row f b e d h =
       tab-ext 768 (rowByteAt f b) (rowByteAt (colourAt r lines) (screen.brightnessOf r))
-      (λ n k. λ i. channelAt (n % 3) (brightnessOf (h (n / 3) (omega arith) i) (d i)))
+      (λ n k. λ i. channelAt (n % 3) (atBrightness (h (n / 3) (omega arith) i) (d i)))
       ∙ (λ i. cond (sym e i) blackRow (tab 768 (rowByteAt (colourAt r lines) (screen.brightnessOf r))))
 
   -- the colours that the calls leave

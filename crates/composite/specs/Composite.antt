@@ -12,7 +12,7 @@ use Rattle.row_tests.specs.Tests.{lentTests}
 use Rattle.window.specs.Window.{masked}
 use Rattle.windows.specs.Windows.{colourWindow}
 use Rattle.colour.specs.declared.Rgb.{Rgb}
-use Rattle.colour.specs.Colour.{brightnessOf}
+use Rattle.colour.specs.Colour.{atBrightness}
 use Rattle.line.specs.declared.Lines.{Lines}
 use Rattle.line.specs.Pixels.{noPixel}
 use Rattle.blend.specs.Blend.{settingsOf, colourOf}
@@ -28,7 +28,7 @@ channelAt k c = cond (eqb k 0) (c .red) (cond (eqb k 1) (c .green) (c .blue))
 
 -- byte i of a row of such colours: channel i mod 3 of pixel i / 3, at the brightness
 unfoldable pub rowByteAt : (ℕ → ℕ) → ℕ → ℕ → ℕ
-rowByteAt colours brightness i = channelAt (i % 3) (brightnessOf (colours (i / 3)) brightness)
+rowByteAt colours brightness i = channelAt (i % 3) (atBrightness (colours (i / 3)) brightness)
 
 unfoldable pub blackRow : List ℕ
 blackRow = tab 768 (λ i. 0)

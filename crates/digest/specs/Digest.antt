@@ -5,8 +5,8 @@ use Rattle.signed.specs.Remainder.{remainder}
 use Rattle.oam.specs.declared.Sprite.{Sprite}
 
 -- a byte whose pair of bits k, counted from the low end, is replaced
-abbrev pub packedOf : ℕ → ℕ → ℕ → ℕ
-packedOf byte k bits = byte % 4 ^ k + bits * 4 ^ k + byte / 4 ^ (k + 1) * 4 ^ (k + 1)
+abbrev pub secondTableByte : ℕ → ℕ → ℕ → ℕ
+secondTableByte byte k bits = byte % 4 ^ k + bits * 4 ^ k + byte / 4 ^ (k + 1) * 4 ^ (k + 1)
 
 -- d x 31 and the high half, that x 31 and the low half, mod 2 ^ 32
 abbrev pub folded : ℕ → ℕ → ℕ
@@ -16,8 +16,8 @@ abbrev pub oneOf : Bool → ℕ
 oneOf b = cond b 1 0
 
 -- the 16 bits of the column, top, tile, base
-abbrev pub placeOf : Sprite → ℕ
-placeOf s =
+abbrev pub spritePlace : Sprite → ℕ
+spritePlace s =
     remainder (s .x) 65536 * 4294967296 + s .y * 16777216 + (s .tile * 65536 + s .«chr_base»)
 
 -- table, palette, priority, and the three bits

@@ -4,11 +4,11 @@ use oam::Sprite;
 use signed::inner::rem_euclid;
 ghost use mathlib.Core.Path.{_≡_};
 ghost use Prim.Native.Nat.{_%_, _<_};
-ghost use Rattle.digest.specs.Digest.{packedOf, folded, oneOf, placeOf, marksOf};
+ghost use Rattle.digest.specs.Digest.{secondTableByte, folded, oneOf, spritePlace, marksOf};
 
 // A byte of the second table in which one of its four sprites has these two bits.
-pub fn packed(byte: u8, sprite: usize, bits: u8) -> u8
-    ensures { λ r. ⌜ r ≡ packedOf byte (sprite % 4) (bits % 4) ⌝ }
+pub fn second_table_byte(byte: u8, sprite: usize, bits: u8) -> u8
+    ensures { λ r. ⌜ r ≡ secondTableByte byte (sprite % 4) (bits % 4) ⌝ }
 {
     let two = bits % 4;
     match sprite % 4 {
@@ -36,7 +36,7 @@ pub fn one(b: bool) -> u64
 
 // Twelve digits: the 16 bits of the column, top, tile, base.
 pub fn place(s: Sprite) -> u64
-    ensures { λ r. ⌜ r ≡ placeOf s ⌝ }
+    ensures { λ r. ⌜ r ≡ spritePlace s ⌝ }
 {
     let column = rem_euclid(s.x as i32, 65536) as u64;
     let tiles = s.tile as u64 * 65536 + s.chr_base as u64;

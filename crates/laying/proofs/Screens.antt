@@ -12,7 +12,7 @@ use Rattle.line.specs.declared.Candidate.{Candidate}
 use Rattle.line.specs.declared.Lines.{Lines}
 use Rattle.line.specs.Pixels.{noPixel, none, deposited}
 use Rattle.laying.specs.declared.Shown.{Shown}
-use Rattle.laying.specs.Laying.{shownAt, onMain, onSub, onScreen, layLine, layLines, rowOf, marked}
+use Rattle.laying.specs.Laying.{shownAt, onMain, onSub, onScreen, layLine, layLines, candidateIn, marked}
 
 -- a mask that is not made, and one that is
 pub mask-off : (on m : Bool) → not on ≡ true → false ≡ on && m
@@ -46,22 +46,22 @@ laid-as-shown h t c = same h (c .opaque) t (c .pixel)
 -- a line, by the mask that is made for both screens
 pub by-mask : (lit win on : Bool) (w : Window) (row : List Candidate) (line : List LinePixel) {mask : List Bool} →
     mask ≡ tab 256 (λ (x : ℕ). on && masked w x) → ((m : Bool) → win && (on && m) ≡ win && m) →
-    layLine (λ x. onScreen (lit && not (win && getD mask x false)) (rowOf row x)) line
-    ≡ layLine (λ x. onScreen (shownAt lit win w x) (rowOf row x)) line
+    layLine (λ x. onScreen (lit && not (win && getD mask x false)) (candidateIn row x)) line
+    ≡ layLine (λ x. onScreen (shownAt lit win w x) (candidateIn row x)) line
 by-mask lit win on w row line e law =
     tab-ext 256 _ _
-    (λ x h. ap (λ (t : Bool). deposited (getD line x noPixel) (onScreen (lit && not t) (rowOf row x)))
+    (λ x h. ap (λ (t : Bool). deposited (getD line x noPixel) (onScreen (lit && not t) (candidateIn row x)))
     (ap (λ (l : List Bool). win && getD l x false) e
     ∙ (ap (λ (t : Bool). win && t) (getD-tab (λ (k : ℕ). on && masked w k) 256 x false h) ∙ law (masked w x))))
 
 -- an array that a rule fills is laid as the rule says
 row-line : (shown : ℕ → Bool) (c : ℕ → Candidate) (line : List LinePixel) →
-    layLine (λ x. onScreen (shown x) (rowOf (tab 256 c) x)) line ≡ layLine (λ x. onScreen (shown x) (c x)) line
+    layLine (λ x. onScreen (shown x) (candidateIn (tab 256 c) x)) line ≡ layLine (λ x. onScreen (shown x) (c x)) line
 row-line shown c line =
     tab-ext 256 _ _
     (λ x h. ap (λ (k : Candidate). deposited (getD line x noPixel) (onScreen (shown x) k)) (getD-tab c 256 x none h))
 
-pub lay-row : (s : Shown) (c : ℕ → Candidate) (lines : Lines) → layLines s (rowOf (tab 256 c)) lines ≡ layLines s c lines
+pub lay-row : (s : Shown) (c : ℕ → Candidate) (lines : Lines) → layLines s (candidateIn (tab 256 c)) lines ≡ layLines s c lines
 lay-row s c lines =
     λ i. record { main = row-line (onMain s) c (lines .main) i; sub = row-line (onSub s) c (lines .sub) i }
 

@@ -43,8 +43,8 @@ layLines s row lines = record {
 }
 
 -- what an array of candidates has at column x
-abbrev pub rowOf : List Candidate → ℕ → Candidate
-rowOf row x = getD row x none
+abbrev pub candidateIn : List Candidate → ℕ → Candidate
+candidateIn row x = getD row x none
 
 -- the same pixel, opaque only where t holds too
 abbrev pub marked : Bool → Candidate → Candidate

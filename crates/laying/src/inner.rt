@@ -9,7 +9,7 @@ ghost use mathlib.Core.Bool.{false, _&&_, not};
 ghost use lib.ListN.{getD};
 ghost use Rattle.lists.specs.Tab.{tab};
 ghost use Rattle.window.specs.Window.{masked};
-ghost use Rattle.laying.specs.Laying.{onScreen, candidatesOf, marked, rowOf, layLine};
+ghost use Rattle.laying.specs.Laying.{onScreen, candidatesOf, marked, candidateIn, layLine};
 
 // The candidate of a layer that has c, where it is shown.
 pub fn on_screen(c: Candidate, shown: bool) -> Candidate
@@ -53,7 +53,7 @@ fn lay_line(
     win: bool,
     mask: [bool; 256],
 ) -> [LinePixel; 256]
-    ensures { λ r. ⌜ r ≡ layLine (λ x. marked (not (win && getD mask x false)) (rowOf row x)) line ⌝ }
+    ensures { λ r. ⌜ r ≡ layLine (λ x. marked (not (win && getD mask x false)) (candidateIn row x)) line ⌝ }
 {
     let mut out = line;
     for x in 0..256 {
@@ -70,7 +70,7 @@ pub fn lay_screen(
     win: bool,
     mask: [bool; 256],
 ) -> [LinePixel; 256]
-    ensures { λ r. ⌜ r ≡ layLine (λ x. onScreen (lit && not (win && getD mask x false)) (rowOf row x)) line ⌝ }
+    ensures { λ r. ⌜ r ≡ layLine (λ x. onScreen (lit && not (win && getD mask x false)) (candidateIn row x)) line ⌝ }
 {
     if lit {
         return lay_line(line, row, win, mask);

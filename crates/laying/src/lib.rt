@@ -7,7 +7,7 @@ use refusal::Refusal;
 use refusal::Verdict;
 use window::Window;
 ghost use mathlib.Core.Path.{_≡_};
-ghost use Rattle.laying.specs.Laying.{rowOf, layLines};
+ghost use Rattle.laying.specs.Laying.{candidateIn, layLines};
 
 // Where a layer is shown: the screens that light it (tm, ts), those that its window bars (tmw, tsw),
 // and the window.
@@ -39,7 +39,7 @@ pub struct LinesAnswer {
 
 // Both lines after a layer is laid that has `row` at its 256 columns.
 pub fn lay(lines: Lines, row: [Candidate; 256], s: Shown) -> Lines
-    ensures { λ r. ⌜ r ≡ layLines s (rowOf row) lines ⌝ }
+    ensures { λ r. ⌜ r ≡ layLines s (candidateIn row) lines ⌝ }
 {
     let over = lines.main;
     let under = lines.sub;
@@ -51,7 +51,7 @@ pub fn lay(lines: Lines, row: [Candidate; 256], s: Shown) -> Lines
 
 // The same of a row that has few opaque columns: the others are skipped.
 pub fn lay_few(lines: Lines, row: [Candidate; 256], s: Shown) -> Lines
-    ensures { λ r. ⌜ r ≡ layLines s (rowOf row) lines ⌝ }
+    ensures { λ r. ⌜ r ≡ layLines s (candidateIn row) lines ⌝ }
 {
     let mut main = lines.main;
     let mut sub = lines.sub;

@@ -20,36 +20,36 @@ abbrev pub chrBaseOf : ℕ → ℕ → ℕ
 chrBaseOf objsel table = (objsel % 8 * 8192 + cond (eqb table 0) 0 ((objsel / 8 % 4 + 1) * 4096)) % 32768
 
 -- byte k of sprite i: 0 its column's low byte, 1 its top, 2 its tile, 3 its attributes (vhoopppN)
-abbrev pub byteOf : List ℕ → ℕ → ℕ → ℕ
-byteOf oam i k = getD oam (i * 4 + k) 0
+abbrev pub spriteByte : List ℕ → ℕ → ℕ → ℕ
+spriteByte oam i k = getD oam (i * 4 + k) 0
 
 -- its two bits after the 512 bytes of the first table: bit 8 of the column, and its size
-abbrev pub pairOf : List ℕ → ℕ → ℕ
-pairOf oam i = getD oam (512 + i / 4) 0 / 2 ^ (i % 4 * 2) % 4
+abbrev pub spriteHighBits : List ℕ → ℕ → ℕ
+spriteHighBits oam i = getD oam (512 + i / 4) 0 / 2 ^ (i % 4 * 2) % 4
 
 -- the nine bits of its column
 abbrev pub x9Of : List ℕ → ℕ → ℕ
-x9Of oam i = pairOf oam i % 2 * 256 + getD oam (i * 4) 0
+x9Of oam i = spriteHighBits oam i % 2 * 256 + getD oam (i * 4) 0
 
 -- a sprite from its column, its tile base, and its bytes
 abbrev pub spriteWith : ℤ → ℕ → List ℕ → ℕ → Sprite
 spriteWith x base oam i =
     record {
       x = x;
-      y = byteOf oam i 1;
-      tile = byteOf oam i 2;
+      y = spriteByte oam i 1;
+      tile = spriteByte oam i 2;
       «chr_base» = base;
-      «name_table» = byteOf oam i 3 % 2;
-      palette = byteOf oam i 3 / 2 % 8;
-      priority = byteOf oam i 3 / 16 % 4;
-      «flip_x» = eqb (byteOf oam i 3 / 64 % 2) 1;
-      «flip_y» = eqb (byteOf oam i 3 / 128) 1;
-      large = eqb (pairOf oam i / 2) 1;
+      «name_table» = spriteByte oam i 3 % 2;
+      palette = spriteByte oam i 3 / 2 % 8;
+      priority = spriteByte oam i 3 / 16 % 4;
+      «flip_x» = eqb (spriteByte oam i 3 / 64 % 2) 1;
+      «flip_y» = eqb (spriteByte oam i 3 / 128) 1;
+      large = eqb (spriteHighBits oam i / 2) 1;
     }
 
 -- sprite i
 unfoldable pub spriteOf : List ℕ → ℕ → ℕ → Sprite
-spriteOf oam i objsel = spriteWith (signed9 (x9Of oam i)) (chrBaseOf objsel (byteOf oam i 3 % 2)) oam i
+spriteOf oam i objsel = spriteWith (signed9 (x9Of oam i)) (chrBaseOf objsel (spriteByte oam i 3 % 2)) oam i
 
 -- what stands where there is no sprite
 abbrev pub blankSprite : Sprite

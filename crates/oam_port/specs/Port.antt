@@ -19,11 +19,11 @@ abbrev pub restPort : OamPort
 restPort = record { address = 0; «write_latch» = 0 }
 
 -- the byte that an address means: from 512 on it is 512 + address mod 32
-abbrev pub byteAt : ℕ → ℕ
-byteAt a = cond (ltb a 512) a (512 + a % 32)
+abbrev pub memoryPlace : ℕ → ℕ
+memoryPlace a = cond (ltb a 512) a (512 + a % 32)
 
-abbrev pub byteOf : List ℕ → ℕ → ℕ
-byteOf oam a = getD oam (byteAt a) 0
+abbrev pub memoryByte : List ℕ → ℕ → ℕ
+memoryByte oam a = getD oam (memoryPlace a) 0
 
 -- the address write sets (value mod 512) x 2 and keeps the latch
 abbrev pub setAddress : ℕ → OamPort → OamPort
@@ -47,7 +47,7 @@ commit v m =
 
 -- from 512 on the byte is stored at once, and the latch is kept
 abbrev pub storeHigh : ℕ → Machine → Machine
-storeHigh v m = machine (set (m .memory) (byteAt (m .port .address)) v) (move (m .port))
+storeHigh v m = machine (set (m .memory) (memoryPlace (m .port .address)) v) (move (m .port))
 
 unfoldable pub store : ℕ → Machine → Machine
 store v m =
@@ -69,5 +69,5 @@ wrote v m = outcome (dataTests (length (m .memory)) (m .port .address)) tt (stor
 
 unfoldable pub readOut : Machine → Outcome ℕ Machine
 readOut m =
-    outcome (dataTests (length (m .memory)) (m .port .address)) (byteOf (m .memory) (m .port .address))
+    outcome (dataTests (length (m .memory)) (m .port .address)) (memoryByte (m .memory) (m .port .address))
     (machine (m .memory) (move (m .port))) m

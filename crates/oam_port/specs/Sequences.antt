@@ -1,4 +1,4 @@
--- Calls one after another. Each does and says what the machine does and says, so that a caller who makes a sequence of calls
+-- PortCalls one after another. Each does and says what the machine does and says, so that a caller who makes a sequence of calls
 -- sees a machine of one memory, one address and one latch.
 use Prim.Native.Nat.{ℕ}
 use mathlib.Core.Path.{_≡_, refl, ap, ap₂, _∙_}
@@ -48,10 +48,10 @@ pub data Called : Access → Machine → Reply → Machine → Type 0 where
       Called dataRead (machine oam p) (byte (byteMeans (r .byte))) (machine oam (r .port))
 
 -- calls made one after another, each on what the one before left
-pub data Calls : List Access → Machine → List Reply → Machine → Type 0 where
-  noCall : (m : Machine) → Calls [] m [] m
+pub data PortCalls : List Access → Machine → List Reply → Machine → Type 0 where
+  noCall : (m : Machine) → PortCalls [] m [] m
   thenCalls : (a : Access) (l : List Access) (m n o : Machine) (r : Reply) (rs : List Reply) →
-      Called a m r n → Calls l n rs o → Calls (a ∷ l) m (r ∷ rs) o
+      Called a m r n → PortCalls l n rs o → PortCalls (a ∷ l) m (r ∷ rs) o
 
 -- a call does and says what the machine does and says
 pub one-call : (a : Access) (m n : Machine) (r : Reply) → Called a m r n → (n ≡ step a m) × (r ≡ reply a m)
@@ -60,7 +60,7 @@ one-call a m n r (wroteData p v entry exit b e) = (λ i. e i .left, λ i. writte
 one-call a m n r (readData p oam b e) = (λ i. e i .left, λ i. byte (e i .said))
 
 -- every sequence of calls ends where the machine's run ends, and heard what the machine says
-pub one-machine : (l : List Access) (m n : Machine) (rs : List Reply) → Calls l m rs n →
+pub one-machine : (l : List Access) (m n : Machine) (rs : List Reply) → PortCalls l m rs n →
     (n ≡ run step l m) × (rs ≡ replies step reply l m)
 unfolding run replies
 one-machine l m n rs (noCall k) = (refl, refl)

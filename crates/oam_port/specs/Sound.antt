@@ -11,11 +11,11 @@ use lib.Seq.{getD-set-same}
 use borrow.Author.Tests.{lt-ltb, le-ltb, eq-eqb, ne-eqb}
 use Rattle.refusal.specs.Answer.{Answer, value, refused, provided, Outcome, outcome}
 use Rattle.lists.specs.Runs.{run, replies, run-keeps}
-use Rattle.oam_port.specs.Port.{Machine, machine, addressTests, byteAt, byteOf, next, move, latch, commit, storeHigh, setAddress, store, addressed, wrote, readOut}
+use Rattle.oam_port.specs.Port.{Machine, machine, addressTests, memoryPlace, memoryByte, next, move, latch, commit, storeHigh, setAddress, store, addressed, wrote, readOut}
 use Rattle.oam_port.specs.Sequences.{Access, addressWrite, dataWrite, dataRead, Reply, written, byte, step, reply}
 
 -- sprite memory of 544 bytes, and an address of the port
-pub record Sound (m : Machine) : Type 0 where
+pub record PortSound (m : Machine) : Type 0 where
   pub long : length (m .memory) ≡ 544
   pub within : m .port .address < 1024
 
@@ -31,7 +31,7 @@ AllSpoken [] = Unit
 AllSpoken (r ∷ l) = Spoken r × AllSpoken l
 
 -- what the calls do to a sound machine
-module _ {m : Machine} (s : Sound m) where
+module _ {m : Machine} (s : PortSound m) where
   pub addressed-sound : (v : ℕ) →
       addressed v m ≡ record { said = value tt; left = machine (m .memory) (setAddress v (m .port)) }
   unfolding addressed
@@ -41,7 +41,7 @@ module _ {m : Machine} (s : Sound m) where
   unfolding wrote
   wrote-sound v = simp (eq-eqb _ 544 (s .long), lt-ltb _ 1024 (s .within))
 
-  pub read-sound : readOut m ≡ record { said = value (byteOf (m .memory) (m .port .address)); left = machine (m .memory) (move (m .port)) }
+  pub read-sound : readOut m ≡ record { said = value (memoryByte (m .memory) (m .port .address)); left = machine (m .memory) (move (m .port)) }
   unfolding readOut
   read-sound = simp (eq-eqb _ 544 (s .long), lt-ltb _ 1024 (s .within))
 
@@ -68,10 +68,10 @@ by-store : (P : Machine → Type 0) (v : ℕ) (m : Machine) → P (latch v m) �
 unfolding store
 by-store P v m = pick P (ltb (m .port .address) 512) (eqb (m .port .address % 2) 0)
 
-store-sound : (v : ℕ) (m : Machine) → Sound m → Sound (store v m)
+store-sound : (v : ℕ) (m : Machine) → PortSound m → PortSound (store v m)
 store-sound v m s =
-    by-store Sound v m (record { long = s .long; within = near }) (record { long = twice; within = near })
-    (record { long = length-set (m .memory) (byteAt (m .port .address)) v ∙ s .long; within = near })
+    by-store PortSound v m (record { long = s .long; within = near }) (record { long = twice; within = near })
+    (record { long = length-set (m .memory) (memoryPlace (m .port .address)) v ∙ s .long; within = near })
   where
     near : next (m .port .address) < 1024
     near = omega arith
@@ -82,17 +82,17 @@ store-sound v m s =
         ∙ (length-set (m .memory) (m .port .address - 1) (m .port .«write_latch») ∙ s .long)
 
 -- each access keeps a machine sound, and is not refused
-sound-step : (a : Access) (m : Machine) → Sound m → Sound (step a m)
+sound-step : (a : Access) (m : Machine) → PortSound m → PortSound (step a m)
 sound-step (addressWrite v) m s =
-    subst (λ (o : Outcome Unit Machine). Sound (o .left)) (sym (addressed-sound s v))
+    subst (λ (o : Outcome Unit Machine). PortSound (o .left)) (sym (addressed-sound s v))
     (record { long = s .long; within = omega arith })
 sound-step (dataWrite v) m s =
-    subst (λ (o : Outcome Unit Machine). Sound (o .left)) (sym (wrote-sound s v)) (store-sound v m s)
+    subst (λ (o : Outcome Unit Machine). PortSound (o .left)) (sym (wrote-sound s v)) (store-sound v m s)
 sound-step dataRead m s =
-    subst (λ (o : Outcome ℕ Machine). Sound (o .left)) (sym (read-sound s))
+    subst (λ (o : Outcome ℕ Machine). PortSound (o .left)) (sym (read-sound s))
     (record { long = s .long; within = omega arith })
 
-sound-spoken : (a : Access) (m : Machine) → Sound m → Spoken (reply a m)
+sound-spoken : (a : Access) (m : Machine) → PortSound m → Spoken (reply a m)
 sound-spoken (addressWrite v) m s =
     subst (λ (o : Outcome Unit Machine). Spoken (written (o .said))) (sym (addressed-sound s v)) tt
 sound-spoken (dataWrite v) m s =
@@ -100,10 +100,10 @@ sound-spoken (dataWrite v) m s =
 sound-spoken dataRead m s = subst (λ (o : Outcome ℕ Machine). Spoken (byte (o .said))) (sym (read-sound s)) tt
 
 -- the same for every sequence
-pub sound-run : (l : List Access) (m : Machine) → Sound m → Sound (run step l m)
-sound-run = run-keeps step Sound sound-step
+pub sound-run : (l : List Access) (m : Machine) → PortSound m → PortSound (run step l m)
+sound-run = run-keeps step PortSound sound-step
 
-pub sound-replies : (l : List Access) (m : Machine) → Sound m → AllSpoken (replies step reply l m)
+pub sound-replies : (l : List Access) (m : Machine) → PortSound m → AllSpoken (replies step reply l m)
 unfolding replies
 sound-replies [] m s = tt
 sound-replies (a ∷ l) m s = (sound-spoken a m s, sound-replies l (step a m) (sound-step a m s))
@@ -125,7 +125,7 @@ module _ (m : Machine) (h : 1024 ≤ m .port .address) where
       ap (λ (t : Answer Unit). outcome (provided (eqb (length (m .memory)) 544) 4 t) tt (store v m) m .left) out
       ∙ stays (eqb (length (m .memory)) 544) tt (store v m) m
   bad-step dataRead =
-      let b = byteOf (m .memory) (m .port .address) in
+      let b = memoryByte (m .memory) (m .port .address) in
       let n = machine (m .memory) (move (m .port)) in
       ap (λ (t : Answer Unit). outcome (provided (eqb (length (m .memory)) 544) 4 t) b n m .left) out
       ∙ stays (eqb (length (m .memory)) 544) b n m
@@ -136,7 +136,7 @@ bad-run [] m h = refl
 bad-run (a ∷ l) m h = ap (run step l) (bad-step m h a) ∙ bad-run l m h
 
 -- a pair: two writes from an even address below 512 store both bytes, in their order
-pub pair-stored : (x y : ℕ) (m : Machine) → Sound m → m .port .address < 512 → m .port .address % 2 ≡ 0 →
+pub pair-stored : (x y : ℕ) (m : Machine) → PortSound m → m .port .address < 512 → m .port .address % 2 ≡ 0 →
     run step (dataWrite x ∷ dataWrite y ∷ []) m .memory
     ≡ set (set (m .memory) (m .port .address) x) (m .port .address + 1) y
 unfolding run
@@ -155,15 +155,15 @@ pair-stored x y m s h e =
     ∙ (λ i. set (set (m .memory) (d i) x) (n i) y)
 
 -- the mirror: a byte written from 512 on is read at every address from 512 on that is the same mod 32
-pub mirrored : (v b : ℕ) (m : Machine) → Sound m → 512 ≤ m .port .address → 512 ≤ b → b % 32 ≡ m .port .address % 32 →
-    byteOf (run step (dataWrite v ∷ []) m .memory) b ≡ v
+pub mirrored : (v b : ℕ) (m : Machine) → PortSound m → 512 ≤ m .port .address → 512 ≤ b → b % 32 ≡ m .port .address % 32 →
+    memoryByte (run step (dataWrite v ∷ []) m .memory) b ≡ v
 unfolding run
 mirrored v b m s h g e =
     let a = m .port .address in
     let stored : wrote v m .left ≡ storeHigh v m =
     ap (λ (o : Outcome Unit Machine). o .left) (wrote-sound s v) ∙ store-high v m h in
-    let there : byteAt b ≡ byteAt a = simp (le-ltb b 512 g, le-ltb a 512 h) (ap (λ (n : ℕ). 512 + n) e) in
-    let within : byteAt a < length (m .memory) = simp (le-ltb a 512 h) (omega (arith, s .long)) in
-    ap (λ (o : Machine). byteOf (o .memory) b) stored
-    ∙ ap (λ (n : ℕ). getD (set (m .memory) (byteAt a) v) n 0) there
-    ∙ getD-set-same (m .memory) (byteAt a) v 0 within
+    let there : memoryPlace b ≡ memoryPlace a = simp (le-ltb b 512 g, le-ltb a 512 h) (ap (λ (n : ℕ). 512 + n) e) in
+    let within : memoryPlace a < length (m .memory) = simp (le-ltb a 512 h) (omega (arith, s .long)) in
+    ap (λ (o : Machine). memoryByte (o .memory) b) stored
+    ∙ ap (λ (n : ℕ). getD (set (m .memory) (memoryPlace a) v) n 0) there
+    ∙ getD-set-same (m .memory) (memoryPlace a) v 0 within

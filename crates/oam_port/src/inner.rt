@@ -3,12 +3,12 @@ use crate::OamPort;
 ghost use mathlib.Core.Path.{_≡_};
 ghost use Prim.Native.Nat.{_<_};
 ghost use lib.ListN.{length};
-ghost use Rattle.oam_port.specs.Port.{byteAt, byteOf, machine, setAddress, store, move};
+ghost use Rattle.oam_port.specs.Port.{memoryPlace, memoryByte, machine, setAddress, store, move};
 
 // The byte that an address means: from 512 on the second table's 32 bytes, repeated.
 fn byte_number(address: u16) -> usize
     requires { ⌜ address < 1024 ⌝ }
-    ensures { λ r. ⌜ (r ≡ byteAt address) × (r < 544) ⌝ }
+    ensures { λ r. ⌜ (r ≡ memoryPlace address) × (r < 544) ⌝ }
 {
     let addr = address as usize;
     if addr < 512 { addr } else { 512 + addr % 32 }
@@ -16,7 +16,7 @@ fn byte_number(address: u16) -> usize
 
 pub fn byte_at(oam: &[u8], address: u16) -> u8
     requires { ⌜ length (now oam) ≡ 544 ⌝ ∗ ⌜ address < 1024 ⌝ }
-    ensures { λ r. ⌜ r ≡ byteOf (now (oam .entry)) address ⌝ }
+    ensures { λ r. ⌜ r ≡ memoryByte (now (oam .entry)) address ⌝ }
 {
     oam[byte_number(address)]
 }

@@ -49,12 +49,12 @@ module _ (bg1 bg2 bg3 bg4 obj : List ℕ) where
       (getD obj x 0)
 
   -- of the sub screen's, where colour math takes it
-  abbrev pub subAt : PPURegisters → ℕ → ℕ
-  subAt r x = cond (bitOf (r .cgwsel) 1) (screenAt (packed (backdropOf (r .coldata))) r (r .ts) (r .tsw) x) 0
+  abbrev pub packedSubAt : PPURegisters → ℕ → ℕ
+  packedSubAt r x = cond (bitOf (r .cgwsel) 1) (screenAt (packed (backdropOf (r .coldata))) r (r .ts) (r .tsw) x) 0
 
   -- the colour there
   unfoldable pub colourOfRow : ℕ → PPURegisters → ℕ → ℕ
   colourOfRow back r x =
-      blended (settingsOf r) (screenAt back r (r .tm) (r .tmw) x) (subAt r x)
+      blended (settingsOf r) (screenAt back r (r .tm) (r .tmw) x) (packedSubAt r x)
       (region (settingsOf r .«clip_mode») (insideAt r (settingsOf r) x))
       (region (settingsOf r .«math_region») (insideAt r (settingsOf r) x))

@@ -18,7 +18,7 @@ ghost use Prim.Native.Nat.{_<_};
 ghost use lib.ListN.{length};
 ghost use lib.Dec.{eqb};
 ghost use Rattle.lists.specs.Tab.{tab};
-ghost use Rattle.packed_row.specs.Screens.{FiveRows, bgBarred, objBarred, screenAt, subAt, insideAt, colourOfRow};
+ghost use Rattle.packed_row.specs.Screens.{FiveRows, bgBarred, objBarred, screenAt, packedSubAt, insideAt, colourOfRow};
 
 // The columns at which background bg is not shown on a screen that has these registers.
 fn bg_barred(r: PPURegisters, lit: u8, win: u8, bg: usize) -> [bool; 256]
@@ -82,7 +82,7 @@ fn sub_line(
     r: PPURegisters,
 ) -> [u32; 256]
     requires { ⌜ FiveRows (length (now bg1)) (length (now bg2)) (length (now bg3)) (length (now bg4)) (length (now obj)) ⌝ }
-    ensures { λ o. ⌜ o ≡ tab 256 (subAt (now (bg1 .entry)) (now (bg2 .entry)) (now (bg3 .entry)) (now (bg4 .entry)) (now (obj .entry)) r) ⌝ }
+    ensures { λ o. ⌜ o ≡ tab 256 (packedSubAt (now (bg1 .entry)) (now (bg2 .entry)) (now (bg3 .entry)) (now (bg4 .entry)) (now (obj .entry)) r) ⌝ }
 {
     if bit(r.cgwsel, 1) {
         return screen(bg1, bg2, bg3, bg4, obj, backdrop(r.coldata), r, r.ts, r.tsw);

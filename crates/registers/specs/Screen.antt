@@ -46,8 +46,8 @@ cleared = record {
 abbrev pub modeOf : PPURegisters → ℕ
 modeOf r = r .bgmode % 8
 
-abbrev pub directColour : PPURegisters → Bool
-directColour r = bitOf (r .cgwsel) 0
+abbrev pub directColourSet : PPURegisters → Bool
+directColourSet r = bitOf (r .cgwsel) 0
 
 abbrev pub blanked : PPURegisters → Bool
 blanked r = bitOf (r .inidisp) 7

@@ -9,7 +9,7 @@ use constants::LAYERS;
 use refusal::Refusal;
 ghost use mathlib.Core.Path.{_≡_};
 ghost use Rattle.registers.specs.Answers.{boolMeans};
-ghost use Rattle.registers.specs.Screen.{cleared, modeOf, directColour, blanked, brightnessOf, spriteInterlace, layerBit};
+ghost use Rattle.registers.specs.Screen.{cleared, modeOf, directColourSet, blanked, brightnessOf, spriteInterlace, layerBit};
 
 // The register values, in the scene file's order; then the mosaic counter (lines left in the
 // mosaic block) and the field (true in an odd frame), which the rules take as inputs.
@@ -117,7 +117,7 @@ impl PPURegisters {
 
     // Do 8bpp backgrounds show direct colour?
     pub fn direct_color(self) -> bool
-        ensures { λ r. ⌜ r ≡ directColour self ⌝ }
+        ensures { λ r. ⌜ r ≡ directColourSet self ⌝ }
     {
         inner::bit(self.cgwsel, 0)
     }

@@ -3,7 +3,7 @@ use mathlib.Core.Path.{_≡_, refl}
 use mathlib.Core.Bool.{true, false}
 use Rattle.registers.specs.declared.PPURegisters.{PPURegisters}
 use Rattle.mosaic.specs.Mosaic.{mosaicSize}
-use Rattle.colour.specs.Colour.{directColour, channelOf, light, brightnessOf}
+use Rattle.colour.specs.Colour.{directColour, channelOf, light, atBrightness}
 use Rattle.bg_map.specs.declared.BgParams.{BgParams}
 use Rattle.bg_map.specs.Source.{extentOf, sourceLine}
 use Rattle.bg_map.specs.Map.{entryOf}
@@ -14,8 +14,8 @@ pub record Edges : Type 0 where
   -- the lines on sprites: x9 504 and 505, 256, 500; top 250; tall 16x32 flipped; objsel low bits 0x1B
   pub sprites : SpriteEdges
   -- 0x7FFF at brightness 7: 123 each; at 15: 255
-  pub bright-7 : brightnessOf 0x7FFF 7 ≡ record { red = 123; green = 123; blue = 123 }
-  pub bright-15 : brightnessOf 0x7FFF 15 ≡ record { red = 255; green = 255; blue = 255 }
+  pub bright-7 : atBrightness 0x7FFF 7 ≡ record { red = 123; green = 123; blue = 123 }
+  pub bright-15 : atBrightness 0x7FFF 15 ≡ record { red = 255; green = 255; blue = 255 }
   -- direct colour 255, palette 7: 0x73DE
   pub direct : directColour 255 7 ≡ 0x73DE
   -- entry 0xC403: tile 3, palette 1, low, both flips
@@ -28,7 +28,7 @@ pub record Edges : Type 0 where
 
 -- They hold.
 pub edges : Edges
-unfolding directColour brightnessOf light
+unfolding directColour atBrightness light
 edges =
     record {
       sprites = sprite-edges;

@@ -38,17 +38,17 @@ after-twice x n {w} {y} {z} e f g =
     record { first = first; second = at (n * 2 + 2) (omega arith); on = at ((n + 1) * 2) (omega arith) }
 
 -- the n-th number
-abbrev pub wordOf : ℕ → ℕ → ℕ
-wordOf n x = afterOf n x / 65536
+abbrev pub drawnWord : ℕ → ℕ → ℕ
+drawnWord n x = afterOf n x / 65536
 
 -- 0, the last, and any number up to it
 abbrev pub endsOf : ℕ → ℕ → ℕ → ℕ
 endsOf k last drawn = cond (eqb k 0) 0 (cond (eqb k 1) last (drawn % (last + 1)))
 
 -- the next 256
-unfoldable pub wordsOf : ℕ → List ℕ
-wordsOf x = tab 256 (λ i. wordOf (i + 1) x)
+unfoldable pub drawnWords : ℕ → List ℕ
+drawnWords x = tab 256 (λ i. drawnWord (i + 1) x)
 
 -- the next four, and the state after them
-abbrev pub fourOf : ℕ → Four
-fourOf x = record { a = wordOf 1 x; b = wordOf 2 x; c = wordOf 3 x; d = wordOf 4 x; x = afterOf 4 x }
+abbrev pub drawnFour : ℕ → Four
+drawnFour x = record { a = drawnWord 1 x; b = drawnWord 2 x; c = drawnWord 3 x; d = drawnWord 4 x; x = afterOf 4 x }

@@ -5,7 +5,7 @@ use mathlib.Core.List.{List}
 use lib.Bits.{bitAnd}
 use lib.Dec.{eqb, ltb}
 use Rattle.lists.specs.Tab.{tab}
-use Rattle.replay.specs.Drawing.{wordOf}
+use Rattle.replay.specs.Drawing.{drawnWord}
 use Rattle.replay.specs.declared.memory.Filling.{Filling}
 use Rattle.replay.specs.declared.memory.Filling.the-variants.{Any, Runs, Picture, Sprites}
 
@@ -30,8 +30,8 @@ pictureOf i a b =
     b)
 
 -- two rows of a map and their tile, then tiles
-abbrev pub spritesOf : ℕ → ℕ → ℕ → ℕ
-spritesOf i a b =
+abbrev pub spriteTilesOf : ℕ → ℕ → ℕ → ℕ
+spriteTilesOf i a b =
     cond
     (ltb i 32)
     8
@@ -52,8 +52,8 @@ abbrev pub heldOf : Filling → ℕ → ℕ → ℕ → ℕ
 heldOf Any i a b = a
 heldOf Runs i a b = runsOf i a b
 heldOf Picture i a b = pictureOf i a b
-heldOf Sprites i a b = spritesOf i a b
+heldOf Sprites i a b = spriteTilesOf i a b
 
 -- two numbers are drawn for each word
 unfoldable pub vramOf : Filling → ℕ → List ℕ
-vramOf filling x = tab 32768 (λ i. heldOf filling i (wordOf (i * 2 + 1) x) (wordOf (i * 2 + 2) x))
+vramOf filling x = tab 32768 (λ i. heldOf filling i (drawnWord (i * 2 + 1) x) (drawnWord (i * 2 + 2) x))

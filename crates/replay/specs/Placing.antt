@@ -4,7 +4,7 @@ use mathlib.Core.Bool.{Bool, cond}
 use mathlib.Core.List.{List, [], _∷_}
 use lib.Dec.{eqb}
 use lib.ListN.{getD, set}
-use Rattle.digest.specs.Digest.{packedOf, oneOf}
+use Rattle.digest.specs.Digest.{secondTableByte, oneOf}
 use Rattle.replay.specs.declared.placing.Place.{Place}
 use Rattle.replay.specs.declared.placing.Place.the-variants.{Any, Edge, NearEdge, Pile, Across, Hidden}
 
@@ -28,7 +28,7 @@ withOf l i x9 top d large =
     (set
     (set
     (set
-    (set l (512 + i / 4) (packedOf (getD l (512 + i / 4) 0) (i % 4) ((x9 / 256 % 2 + oneOf large * 2) % 4)))
+    (set l (512 + i / 4) (secondTableByte (getD l (512 + i / 4) 0) (i % 4) ((x9 / 256 % 2 + oneOf large * 2) % 4)))
     (i * 4)
     (x9 % 256))
     (i * 4 + 1)

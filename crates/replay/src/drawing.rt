@@ -4,7 +4,7 @@ use generator::word;
 use line::inner::pick_color as pick;
 ghost use mathlib.Core.Path.{_≡_};
 ghost use Prim.Native.Nat.{_/_, _%_};
-ghost use Rattle.replay.specs.Drawing.{afterOf, wordOf, endsOf, wordsOf, fourOf};
+ghost use Rattle.replay.specs.Drawing.{afterOf, drawnWord, endsOf, drawnWords, drawnFour};
 
 pub fn low(word: u16) -> u8
     ensures { λ r. ⌜ r ≡ word % 256 ⌝ }
@@ -31,7 +31,7 @@ pub fn after(n: u32, seed: u32) -> u32
 
 // The n-th number.
 pub fn nth(n: u32, seed: u32) -> u16
-    ensures { λ r. ⌜ r ≡ wordOf n seed ⌝ }
+    ensures { λ r. ⌜ r ≡ drawnWord n seed ⌝ }
 {
     word(after(n, seed))
 }
@@ -49,7 +49,7 @@ pub fn ends(k: u32, last: u8, drawn: u16) -> u16
 
 // The next 256 numbers: a colour memory, or enough for the registers.
 pub fn words(seed: u32) -> [u16; 256]
-    ensures { λ r. ⌜ r ≡ wordsOf seed ⌝ }
+    ensures { λ r. ⌜ r ≡ drawnWords seed ⌝ }
 {
     let mut all = [0u16; 256];
     let mut x = seed;
@@ -70,7 +70,7 @@ pub struct Four {
 }
 
 pub fn drawn(seed: u32) -> Four
-    ensures { λ r. ⌜ r ≡ fourOf seed ⌝ }
+    ensures { λ r. ⌜ r ≡ drawnFour seed ⌝ }
 {
     let a = next(seed);
     let b = next(a);

@@ -5,7 +5,7 @@ use line::inner::pick_color as pick;
 ghost use mathlib.Core.Path.{_≡_};
 ghost use mathlib.Core.Bool.{cond};
 ghost use lib.Bits.{bitAnd};
-ghost use Rattle.replay.specs.Memory.{runsOf, pictureOf, spritesOf, heldOf, vramOf};
+ghost use Rattle.replay.specs.Memory.{runsOf, pictureOf, spriteTilesOf, heldOf, vramOf};
 
 // What VRAM is filled with: any words; runs; a picture of few tiles; the tiles of sprites.
 pub enum Filling {
@@ -45,7 +45,7 @@ fn picture(i: usize, a: u16, b: u16) -> u16
 // The first words are a row of a map with low entries, one with high entries and their tile: the oracle
 // reads priorities by them. Then come nothing, few bits, rows with nothing and many, in runs of 16 words.
 fn sprites(i: usize, a: u16, b: u16) -> u16
-    ensures { λ r. ⌜ r ≡ spritesOf i a b ⌝ }
+    ensures { λ r. ⌜ r ≡ spriteTilesOf i a b ⌝ }
 {
     let k = i / 16 % 4;
     let tile = sparse((k == 0) | ((k == 2) & (b % 4 == 0)), k == 1, a, b);

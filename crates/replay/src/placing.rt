@@ -2,7 +2,7 @@
 use crate::drawing::high;
 use crate::drawing::low;
 use digest::one;
-use digest::packed;
+use digest::second_table_byte;
 use line::inner::pick_color as pick;
 ghost use mathlib.Core.Path.{_≡_};
 ghost use Prim.Native.Nat.{_%_};
@@ -51,7 +51,7 @@ pub fn with(sprites: [u8; 544], sprite: usize, x9: u16, top: u16, d: u16, large:
     let i = sprite % 128;
     let bits = (x9 / 256 % 2) as u8 + (one(large) * 2) as u8;
     let mut oam = sprites;
-    oam[512 + i / 4] = packed(oam[512 + i / 4], i, bits);
+    oam[512 + i / 4] = second_table_byte(oam[512 + i / 4], i, bits);
     oam[i * 4] = low(x9);
     oam[i * 4 + 1] = low(top);
     oam[i * 4 + 2] = low(d);

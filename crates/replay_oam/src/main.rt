@@ -2,8 +2,8 @@
 // columns.
 use digest::fold;
 use digest::marks;
-use digest::packed;
 use digest::place;
+use digest::second_table_byte;
 use generator::next;
 use generator::word;
 use oam::Sprite;
@@ -31,7 +31,7 @@ fn arranged(bytes: [u8; 544], m: u8) -> [u8; 544] {
     for i in 0..128usize {
         let x = EDGES[i / 4 % 8];
         let bits = (x / 256 % 2) as u8 + (i / 32 % 2) as u8 * 2;
-        oam[512 + i / 4] = packed(oam[512 + i / 4], i, bits);
+        oam[512 + i / 4] = second_table_byte(oam[512 + i / 4], i, bits);
         oam[i * 4] = low(x);
         oam[i * 4 + 3] = ((i * 2 + m as usize) % 256) as u8;
     }

@@ -18,7 +18,7 @@ use Rattle.scene.specs.File.{countAt, sectionTests, endTests, valueTests, scene
 use Rattle.scene_bytes.specs.Bytes.{registersOf, wordsOf}
 use Rattle.scene.specs.Pieces.{countTests, bodyTests, valuesIn}
 use Rattle.scene.specs.Whole.{no-pass, held, after}
-use Rattle.scene_input.specs.Input.{Follows, ReadAs, SceneRead, SectionRead, sectionOf, sectionThen, heldThen, endOn, registersOn, HeldRegisters}
+use Rattle.scene_input.specs.Input.{Follows, ReadAs, SceneRead, SectionRead, firstSection, sectionThen, heldThen, endOn, registersOn, HeldRegisters}
 
 -- the same on both sides of a comparison
 shifted : (k n m : ℕ) → leb (k + n) (k + m) ≡ leb n m
@@ -51,11 +51,11 @@ module _ (n : ℕ) where
 
   -- a section whose count is whole and right is tested by its length alone
   counted : (b : List ℕ) → leb 4 (length b) ≡ true → eqb (countAt b 0) n ≡ true →
-      sectionOf n b ≡ provided (leb (4 + n) (length b)) 9 (value tt)
+      firstSection n b ≡ provided (leb (4 + n) (length b)) 9 (value tt)
   counted b l e = λ i. provided (l i) 9 (provided (e i) 8 (provided (leb (4 + n) (length b)) 9 (value tt)))
 
   -- a count, and the body that came
-  pub section-of : (c b : List ℕ) → length c ≡ 4 → countTests n c ≡ value tt → bodyTests n (length b) ≡ sectionOf n (c ++ b)
+  pub section-of : (c b : List ℕ) → length c ≡ 4 → countTests n c ≡ value tt → bodyTests n (length b) ≡ firstSection n (c ++ b)
   unfolding countTests bodyTests
   section-of c b l e =
       let long : length (c ++ b) ≡ 4 + length b = length-append c b ∙ ap (λ (k : ℕ). k + length b) l in
@@ -66,13 +66,13 @@ module _ (n : ℕ) where
 
   -- a count that is refused, whatever follows it
   pub section-stopped : (c more : List ℕ) {r : ℕ} → Follows (ltb (length c) 4) more → countTests n c ≡ refused r →
-      sectionOf n (c ++ more) ≡ refused r
+      firstSection n (c ++ more) ≡ refused r
   unfolding countTests
   section-stopped c more {r} f e = by-length (ltb (length c) 4) refl
     where
-      by-length : (t : Bool) → ltb (length c) 4 ≡ t → sectionOf n (c ++ more) ≡ refused r
+      by-length : (t : Bool) → ltb (length c) 4 ≡ t → firstSection n (c ++ more) ≡ refused r
       by-length true l =
-          ap (sectionOf n) (ap (λ (m : List ℕ). c ++ m) (f l) ∙ append-nil c)
+          ap (firstSection n) (ap (λ (m : List ℕ). c ++ m) (f l) ∙ append-nil c)
           ∙ (sym (chained (leb 4 (length c)) (eqb (countAt c 0) n) (leb (4 + n) (length c)))
           ∙ ap (λ (a : Answer Unit). a andThen provided (leb (4 + n) (length c)) 9 (value tt)) e)
       by-length false l =
@@ -84,7 +84,7 @@ module _ (n : ℕ) where
           ∙ wrong (eqb (countAt c 0) n) 8 rest (ap (λ (t : Bool). provided t 9 (provided (eqb (countAt c 0) n) 8 (value tt))) (sym whole) ∙ e)
 
   -- what follows a section that passes does not change it
-  section-before : (b rest : List ℕ) → length b ≡ 4 + n → sectionOf n b ≡ value tt → sectionOf n (b ++ rest) ≡ value tt
+  section-before : (b rest : List ℕ) → length b ≡ 4 + n → firstSection n b ≡ value tt → firstSection n (b ++ rest) ≡ value tt
   section-before b rest l e =
       let long : length (b ++ rest) ≡ 4 + n + length rest = length-append b rest ∙ ap (λ (k : ℕ). k + length rest) l in
       let body = provided (leb (4 + n) (length b)) 9 (value tt) in
@@ -118,7 +118,7 @@ module _ (n : ℕ) {v : Verdict} (c : List ℕ) (counted-as : verdictMeans v ≡
     said = λ more f.
         said
         ∙ (reached more f (ltb got n) refl
-        ∙ (section-of n c (take got body ++ more) four passes ∙ ap (sectionOf n) (sym (append-assoc c (take got body) more))));
+        ∙ (section-of n c (take got body ++ more) four passes ∙ ap (firstSection n) (sym (append-assoc c (take got body) more))));
     long = λ p. length-append c (take got body) ∙ (λ i. four i + (ap length (whole p) ∙ long) i);
     holds = λ p. drop-at c (take got body) 4 four ∙ whole p;
   }
@@ -190,8 +190,8 @@ module _ {n : ℕ} {P : List ℕ → Type 0} {v : Verdict} (s : SectionRead n P 
       let rest : (k : List ℕ) → drop (4 + n) (b ++ k) ≡ k = λ k. drop-at b k (4 + n) l in
       let body : (k : List ℕ) → take n (drop 4 (b ++ k)) ≡ drop 4 b =
       λ k. ap (take n) (drop-append-le 4 b k (omega arith)) ∙ take-at (drop 4 b) k n (length-drop 4 b ∙ omega arith) in
-      let alone : sectionOf n b ≡ value tt =
-      ap (sectionOf n) (sym (append-nil b)) ∙ (sym (s .said [] (λ z. refl)) ∙ ap verdictMeans e) in
+      let alone : firstSection n b ≡ value tt =
+      ap (firstSection n) (sym (append-nil b)) ∙ (sym (s .said [] (λ z. refl)) ∙ ap verdictMeans e) in
       record {
         bytes = b ++ r .bytes;
         ended = r .ended;
@@ -256,7 +256,7 @@ module _ (b : List ℕ) (k : ℕ) where
       + byte-at 1 (k + 1) (omega arith) i * 256
       + (byte-at 2 (k + 2) (omega arith) i + byte-at 3 (k + 2 + 1) (omega arith) i * 256) * 65536
 
-  section-from : (n : ℕ) → sectionOf n (drop k b) ≡ sectionTests b k n
+  section-from : (n : ℕ) → firstSection n (drop k b) ≡ sectionTests b k n
   section-from n = λ i.
       provided (reaches 4 (omega arith) i) 9
       (provided (eqb (count-from i) n) 8
@@ -289,8 +289,8 @@ module _ (b : List ℕ) where
       (λ i.
       (s1
       andThen section-from b 52 544 i
-      andThen (ap (sectionOf 512) at-600 ∙ section-from b 600 512) i
-      andThen (ap (sectionOf 65536) at-1116 ∙ section-from b 1116 65536) i
+      andThen (ap (firstSection 512) at-600 ∙ section-from b 600 512) i
+      andThen (ap (firstSection 65536) at-1116 ∙ section-from b 1116 65536) i
       andThen endTests (length (at-end i)))
       andThen valueTests (in-piece b 4 48 46 50 (omega arith) refl i) (in-piece b 4 48 47 51 (omega arith) refl i))
       ∙ (then-more s1 (s2 andThen s3 andThen s4 andThen end) v

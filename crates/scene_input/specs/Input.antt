@@ -30,19 +30,19 @@ SceneRead registers oam cgram vram v =
     ReadAs sceneTests (λ input. scene (registersOf registers) vram cgram oam ≡ sceneOf input) v
 
 -- on the way: a section of n bytes from the first byte on, of whose body P holds
-abbrev pub sectionOf : ℕ → List ℕ → Answer Unit
-sectionOf n bytes = sectionTests bytes 0 n
+abbrev pub firstSection : ℕ → List ℕ → Answer Unit
+firstSection n bytes = sectionTests bytes 0 n
 
 pub record SectionRead (n : ℕ) (P : List ℕ → Type 0) (v : Verdict) : Type 0 where
   pub bytes : List ℕ
   pub ended : Bool
-  pub said : (more : List ℕ) → Follows ended more → verdictMeans v ≡ sectionOf n (bytes ++ more)
+  pub said : (more : List ℕ) → Follows ended more → verdictMeans v ≡ firstSection n (bytes ++ more)
   pub long : Passed v → length bytes ≡ 4 + n
   pub holds : Passed v → P (drop 4 bytes)
 
 -- a section of n bytes, and then others
 abbrev pub sectionThen : ℕ → (List ℕ → Answer Unit) → List ℕ → Answer Unit
-sectionThen n rest bytes = sectionOf n bytes andThen rest (drop (4 + n) bytes)
+sectionThen n rest bytes = firstSection n bytes andThen rest (drop (4 + n) bytes)
 
 -- of whose body P holds, and Q of the others
 abbrev pub heldThen : ℕ → (List ℕ → Type 0) → (List ℕ → Type 0) → List ℕ → Type 0

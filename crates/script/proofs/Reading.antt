@@ -10,13 +10,13 @@ use lib.Dec.{ltb, eqb}
 use lib.ListN.{length, getD, take, length-take, length-drop, drop-of-length-le, List·getD-eq-default}
 use lib.Seq.{slice, slice-empty, slice-cons, drop-drop, getD-drop, getD-take}
 use borrow.Author.Tests.{ltb-true, ltb-false, lt-ltb, le-ltb, le-leb}
-use Rattle.script.specs.Number.{digitOf, areDigits, behind, provided, moreOf, digitsOf, isHex, wordNumber, numberOf}
+use Rattle.script.specs.Number.{digitOf, areDigits, behind, numberWhere, moreOf, digitsOf, isHex, wordNumber, numberBetween}
 use Rattle.script.specs.declared.NumberAnswer.{NumberAnswer}
 use Rattle.script.specs.declared.NumberAnswer.the-variants.{Is, Not}
 
 -- what the digits l say behind the number n
 unfoldable pub readOn : ℕ → List ℕ → ℕ → NumberAnswer
-readOn base l n = provided (areDigits base l) (behind base n l)
+readOn base l n = numberWhere (areDigits base l) (behind base n l)
 
 -- and behind what was read before them
 abbrev pub onward : ℕ → List ℕ → NumberAnswer → NumberAnswer
@@ -33,7 +33,7 @@ grows base (b ∷ l) n h =
 
 module _ (base b : ℕ) (l : List ℕ) (n : ℕ) where
   by-tests : (t u : Bool) → ltb (digitOf b) base ≡ t → ltb (n * base + digitOf b) (2 ^ 64) ≡ u →
-      provided (t && areDigits base l) (behind base (n * base + digitOf b) l)
+      numberWhere (t && areDigits base l) (behind base (n * base + digitOf b) l)
       ≡ onward base l (cond (t && u) (Is (n * base + digitOf b)) Not)
   unfolding readOn
   by-tests true true e f = refl
@@ -69,12 +69,12 @@ module _ (s : List ℕ) (from to : ℕ) where
       rw (List·getD-eq-default (slice from to s) 0 short, and-false)
 
   module _ (within : to ≤ length s) where
-    pub by-hexadecimal : isHex (slice from to s) ≡ true → digitsOf 16 (slice (from + 2) to s) ≡ numberOf s from to
-    unfolding wordNumber numberOf
+    pub by-hexadecimal : isHex (slice from to s) ≡ true → digitsOf 16 (slice (from + 2) to s) ≡ numberBetween s from to
+    unfolding wordNumber numberBetween
     by-hexadecimal e = rw (le-leb _ _ within, e, drop-drop)
 
-    pub by-decimal : isHex (slice from to s) ≡ false → digitsOf 10 (slice from to s) ≡ numberOf s from to
-    unfolding wordNumber numberOf
+    pub by-decimal : isHex (slice from to s) ≡ false → digitsOf 10 (slice from to s) ≡ numberBetween s from to
+    unfolding wordNumber numberBetween
     by-decimal e = rw (le-leb _ _ within, e)
 
     module _ (base : ℕ) (h : from < to) where

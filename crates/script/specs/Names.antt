@@ -29,8 +29,8 @@ firstOf good w [] = 0
 firstOf good w (n ∷ ns) = cond (good && same w n) 0 (suc (firstOf good w ns))
 
 -- the place of the bytes of s from `from` to before `to`
-unfoldable pub placeOf : List ℕ → List ℕ → ℕ → ℕ → ℕ
-placeOf names s from to = firstOf (leb from to && leb to (length s)) (slice from to s) (namesOf names)
+unfoldable pub placeBetween : List ℕ → List ℕ → ℕ → ℕ → ℕ
+placeBetween names s from to = firstOf (leb from to && leb to (length s)) (slice from to s) (namesOf names)
 
 -- does the word that ends before `to` go on with b at `at`?
 abbrev pub goesOn : List ℕ → ℕ → ℕ → ℕ → Bool

@@ -26,17 +26,17 @@ behind base n [] = n
 behind base n (b ∷ l) = behind base (n * base + digitOf b) l
 
 -- a number, where the test holds and it has 64 bits
-abbrev pub provided : Bool → ℕ → NumberAnswer
-provided test n = cond (test && ltb n (2 ^ 64)) (Is n) Not
+abbrev pub numberWhere : Bool → ℕ → NumberAnswer
+numberWhere test n = cond (test && ltb n (2 ^ 64)) (Is n) Not
 
 -- one digit d more behind a number n
 abbrev pub moreOf : ℕ → ℕ → ℕ → NumberAnswer
-moreOf n d base = provided (ltb d base) (n * base + d)
+moreOf n d base = numberWhere (ltb d base) (n * base + d)
 
 -- digits, at least one
 unfoldable pub digitsOf : ℕ → List ℕ → NumberAnswer
 digitsOf base [] = Not
-digitsOf base (b ∷ l) = provided (areDigits base (b ∷ l)) (behind base 0 (b ∷ l))
+digitsOf base (b ∷ l) = numberWhere (areDigits base (b ∷ l)) (behind base 0 (b ∷ l))
 
 -- does a word begin with `0x`?
 abbrev pub isHex : List ℕ → Bool
@@ -47,5 +47,5 @@ unfoldable pub wordNumber : List ℕ → NumberAnswer
 wordNumber w = cond (isHex w) (digitsOf 16 (drop 2 w)) (digitsOf 10 w)
 
 -- the number that the bytes from `from` to before `to` are
-unfoldable pub numberOf : List ℕ → ℕ → ℕ → NumberAnswer
-numberOf s from to = cond (leb to (length s)) (wordNumber (slice from to s)) Not
+unfoldable pub numberBetween : List ℕ → ℕ → ℕ → NumberAnswer
+numberBetween s from to = cond (leb to (length s)) (wordNumber (slice from to s)) Not

@@ -6,8 +6,8 @@ ghost use Prim.Native.Nat.{_+_, _<_, _≤_};
 ghost use lib.ListN.{length};
 ghost use lib.Seq.{slice};
 ghost use Rattle.script.specs.Seek.{isBlank, stopsAt, seekOf};
-ghost use Rattle.script.specs.Number.{digitOf, moreOf, digitsOf, isHex, numberOf};
-ghost use Rattle.script.specs.Names.{placeOf, goesOn};
+ghost use Rattle.script.specs.Number.{digitOf, moreOf, digitsOf, isHex, numberBetween};
+ghost use Rattle.script.specs.Names.{placeBetween, goesOn};
 
 // What a search for a byte stops at.
 pub enum Stop {
@@ -123,7 +123,7 @@ fn hexadecimal(s: &[u8], from: usize, to: usize) -> bool
 // The number that the bytes from `from` to before `to` are: decimal digits, or `0x` and hexadecimal
 // ones. No digit, another byte, a number above 64 bits, or places outside s: Not.
 pub fn number(s: &[u8], from: usize, to: usize) -> NumberAnswer
-    ensures { λ r. ⌜ r ≡ numberOf (now (s .entry)) from to ⌝ }
+    ensures { λ r. ⌜ r ≡ numberBetween (now (s .entry)) from to ⌝ }
 {
     if to > s.len() {
         return NumberAnswer::Not;
@@ -147,7 +147,7 @@ fn goes_on(s: &[u8], at: usize, to: usize, b: u8) -> bool
 // The place, counted from 0, of the word s[from..to] in a list of names that are separated by one
 // space each; the number of names where it is not among them, also where its places are outside s.
 pub fn place(names: &[u8], s: &[u8], from: usize, to: usize) -> usize
-    ensures { λ r. ⌜ r ≡ placeOf (now (names .entry)) (now (s .entry)) from to ⌝ }
+    ensures { λ r. ⌜ r ≡ placeBetween (now (names .entry)) (now (s .entry)) from to ⌝ }
 {
     let good = (from <= to) & (to <= s.len());
     // k names are passed. Where `live` holds, the name that is read is so far the word up to `at`.

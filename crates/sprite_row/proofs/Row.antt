@@ -7,7 +7,7 @@ use lib.Dec.{ltb, leb}
 use borrow.Author.Tests.{lt-ltb, le-ltb, leb-true, leb-false}
 use Rattle.oam.specs.declared.Sprite.{Sprite}
 use Rattle.oam.specs.declared.SpriteSize.{SpriteSize}
-use Rattle.sprite_row.specs.SpriteRow.{sizeIn, lineOf, linesOf, meetsRow, passes, inRange, x9}
+use Rattle.sprite_row.specs.SpriteRow.{sizeIn, lineOf, linesCovered, meetsRow, passes, inRange, x9}
 
 -- its last column is below 512
 pub ends-by : (a : ℕ) → leb a 512 ≡ ltb (a - 1) 512
@@ -18,7 +18,7 @@ ends-by a = by-cases (leb a 512) refl
     by-cases false e = let h : 512 < a = leb-false a 512 e in e ∙ sym (le-ltb (a - 1) 512 (omega arith))
 
 module _ (row objsel : ℕ) (interlace : Bool) (s : Sprite) {size : SpriteSize} {lines line : ℕ}
-    (is-size : size ≡ sizeIn objsel s) (is-lines : lines ≡ linesOf size interlace) (is-line : line ≡ lineOf row (s .y)) where
+    (is-size : size ≡ sizeIn objsel s) (is-lines : lines ≡ linesCovered size interlace) (is-line : line ≡ lineOf row (s .y)) where
   pub misses : lines ≤ line → false ≡ inRange row objsel interlace s
   unfolding meetsRow
   misses h = rw (← is-size, ← is-lines, ← is-line, le-ltb line lines h)

@@ -20,12 +20,12 @@ abbrev pub lineOf : ℕ → ℕ → ℕ
 lineOf row top = (row + 256 - top) % 256
 
 -- the lines that a sprite covers: its height, halved under interlace
-abbrev pub linesOf : SpriteSize → Bool → ℕ
-linesOf size interlace = cond interlace (size .height / 2) (size .height)
+abbrev pub linesCovered : SpriteSize → Bool → ℕ
+linesCovered size interlace = cond interlace (size .height / 2) (size .height)
 
 -- the row meets the sprite
 unfoldable pub meetsRow : ℕ → ℕ → Bool → Sprite → Bool
-meetsRow row objsel interlace s = ltb (lineOf row (s .y)) (linesOf (sizeIn objsel s) interlace)
+meetsRow row objsel interlace s = ltb (lineOf row (s .y)) (linesCovered (sizeIn objsel s) interlace)
 
 -- at these nine bits a sprite of this width is wholly left of the picture, and passed over; at 256 it is not
 unfoldable pub passes : ℕ → ℕ → Bool

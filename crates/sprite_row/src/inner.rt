@@ -5,7 +5,7 @@ use oam::inner::nine_bits;
 use oam::inner::sprite_size;
 ghost use mathlib.Core.Path.{_≡_};
 ghost use Prim.Native.Nat.{_<_, _≤_};
-ghost use Rattle.sprite_row.specs.SpriteRow.{lineOf, linesOf, inRange, passes, counts, countTo, tilesOf};
+ghost use Rattle.sprite_row.specs.SpriteRow.{lineOf, linesCovered, inRange, passes, counts, countTo, tilesOf};
 
 // The row's line within a sprite, counted modulo 256.
 pub fn sprite_line(row: u8, top: u8) -> u8
@@ -16,7 +16,7 @@ pub fn sprite_line(row: u8, top: u8) -> u8
 
 // The lines that a sprite covers.
 pub fn lines(size: SpriteSize, obj_interlace: bool) -> u8
-    ensures { λ r. ⌜ r ≡ linesOf size «obj_interlace» ⌝ }
+    ensures { λ r. ⌜ r ≡ linesCovered size «obj_interlace» ⌝ }
 {
     if obj_interlace {
         size.height / 2

@@ -1,11 +1,11 @@
-use Rattle.colour.specs.Colour.{mathOf, wordOf}
+use Rattle.colour.specs.Colour.{mathOf, colourWord}
 use borrow.Author.Needs.{needs}
 use Rattle.colour.proofs.color_math.Statement.{statement}
 use Rattle.colour.proofs.color_math.Tie as tie
 
 returns : tie.Need-returns
 unfolding mathOf
-returns c = λ i. wordOf (c .before .before .channel .ensures .0 i) (c .before .channel2 .ensures .0 i) (c .channel3 .ensures .0 i)
+returns c = λ i. colourWord (c .before .before .channel .ensures .0 i) (c .before .channel2 .ensures .0 i) (c .channel3 .ensures .0 i)
 
 pub color-math-spec : {M : Type 1} → statement M
 color-math-spec =

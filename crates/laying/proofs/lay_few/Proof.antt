@@ -5,15 +5,15 @@ use borrow.Author.Tests.{not-true}
 use lib.ListN.{getD}
 use Rattle.lists.specs.Filling.{Filled, filled-none, filled-read, filled-more, filled-kept, filled-all, long-field}
 use Rattle.line.specs.Pixels.{noPixel, deposited}
-use Rattle.laying.specs.Laying.{onMain, onSub, candidatesOf, rowOf}
+use Rattle.laying.specs.Laying.{onMain, onSub, candidatesOf, candidateIn}
 use Rattle.laying.proofs.Screens.{clear-kept}
 use Rattle.laying.proofs.lay_few.Statement.{statement}
 use Rattle.laying.proofs.lay_few.Tie as tie
 
 abbrev Inv-loop : tie.InvT-loop
 Inv-loop s row main₀ sub₀ x₀ main sub x =
-    Filled 256 (λ k. deposited (getD main₀ k noPixel) (candidatesOf s k (rowOf row k) .main)) main₀ main x
-    × Filled 256 (λ k. deposited (getD sub₀ k noPixel) (candidatesOf s k (rowOf row k) .sub)) sub₀ sub x
+    Filled 256 (λ k. deposited (getD main₀ k noPixel) (candidatesOf s k (candidateIn row k) .main)) main₀ main x
+    × Filled 256 (λ k. deposited (getD sub₀ k noPixel) (candidatesOf s k (candidateIn row k) .sub)) sub₀ sub x
 
 abbrev μ-loop : tie.MeasureT-loop
 μ-loop s row main₀ sub₀ x₀ main sub x = 256 - x
@@ -29,8 +29,8 @@ loop-again c =
     let x = l .before .loop .x in
     let h = l .loop-test .taken in
     let clear = not-true _ (c .if1 .taken) in (
-      filled-kept (i .0) h noPixel (clear-kept (getD (a .lines .main) x noPixel) (onMain (a .s) x) (rowOf (a .t2) x) clear),
-      filled-kept (i .1) h noPixel (clear-kept (getD (a .lines .sub) x noPixel) (onSub (a .s) x) (rowOf (a .t2) x) clear),
+      filled-kept (i .0) h noPixel (clear-kept (getD (a .lines .main) x noPixel) (onMain (a .s) x) (candidateIn (a .t2) x) clear),
+      filled-kept (i .1) h noPixel (clear-kept (getD (a .lines .sub) x noPixel) (onSub (a .s) x) (candidateIn (a .t2) x) clear),
     )
 
 loop-again-2 : tie.Need-loop-again-2 Inv-loop μ-loop

@@ -2,13 +2,13 @@ use mathlib.Core.Path.{sym, _∙_}
 use native.Mathlib.Omega.{arith}
 use borrow.Author.Needs.{needs}
 use borrow.Author.Tests.{lt-leb}
-use Rattle.script.specs.Number.{numberOf}
+use Rattle.script.specs.Number.{numberBetween}
 use Rattle.script.proofs.Reading.{by-hexadecimal, by-decimal}
 use Rattle.script.proofs.number.Statement.{statement}
 use Rattle.script.proofs.number.Tie as tie
 
 returns : tie.Need-returns
-unfolding numberOf
+unfolding numberBetween
 returns c = simp (lt-leb _ _ (c .if1 .taken))
 
 add-digits : tie.Need-add-digits

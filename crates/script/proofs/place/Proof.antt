@@ -3,7 +3,7 @@ use mathlib.Core.Path.{_≡_, refl}
 use native.Mathlib.Omega.{arith}
 use borrow.Author.Needs.{needs}
 use lib.ListN.{length}
-use Rattle.script.specs.Names.{placeOf}
+use Rattle.script.specs.Names.{placeBetween}
 use Rattle.script.proofs.Naming.{Scan, scan-none, scan-found, scan-passed, scan-below, scan-on, scan-off, scan-last, scan-over}
 use Rattle.script.proofs.place.Statement.{statement}
 use Rattle.script.proofs.place.Tie as tie
@@ -19,7 +19,7 @@ loop-holds : tie.Need-loop-holds Inv-loop μ-loop
 loop-holds c = (search needs, omega arith, scan-none refl)
 
 returns : tie.Need-returns Inv-loop μ-loop
-unfolding placeOf
+unfolding placeBetween
 returns c =
     let l = c .before .before .before .before .loop in
     scan-found (l .inv .2) (omega arith) (c .before .if1 .taken) (c .if2 .taken)
@@ -55,14 +55,14 @@ loop-again-3 c =
     )
 
 returns-2 : tie.Need-returns-2 Inv-loop μ-loop
-unfolding placeOf
+unfolding placeBetween
 returns-2 c = scan-last (c .before .before .loop .inv .2) (omega arith) (c .if4 .taken)
 
 add-result : tie.Need-add-result Inv-loop μ-loop
 add-result c = omega arith
 
 returns-3 : tie.Need-returns-3 Inv-loop μ-loop
-unfolding placeOf
+unfolding placeBetween
 returns-3 c = scan-over (c .before .before .loop .inv .2) (omega arith) (c .if4 .left)
 
 pub place-spec : {M : Type 1} → statement M

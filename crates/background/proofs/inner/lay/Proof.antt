@@ -1,7 +1,7 @@
 use Rattle.background.specs.Background.{bgShownBy}
 use Rattle.bg_row.specs.Row.{bgPixel}
 use Rattle.laying.proofs.Screens.{lay-row}
-use Rattle.laying.specs.Laying.{layLines, rowOf}
+use Rattle.laying.specs.Laying.{layLines, candidateIn}
 use denote.Ref.{now}
 use mathlib.Core.Path.{_∙_}
 use borrow.Author.Needs.{needs}
@@ -13,7 +13,7 @@ returns c =
     let w = c .before .before in
     let a = w .before .before .before .args in
     c .lay .ensures
-    ∙ ((λ i. layLines (c .before .shown .ensures i) (rowOf (w .row .ensures i)) (a .lines))
+    ∙ ((λ i. layLines (c .before .shown .ensures i) (candidateIn (w .row .ensures i)) (a .lines))
     ∙ lay-row (bgShownBy (a .r) (a .p)) (bgPixel (now (a .vram)) (now (a .cgram)) (a .r) (a .p) (a .y)) (a .lines))
 
 pub lay-spec : {M : Type 1} → statement M

@@ -2,20 +2,20 @@ use mathlib.Core.Path.{_≡_, sym, ap, subst, _∙_}
 use native.Mathlib.Omega.{arith}
 use Rattle.bg_row.proofs.Spread.{block-start, first-start, next-start}
 use Rattle.lists.specs.Filling.{Front, front-none, front-more, front-at, front-all}
-use Rattle.laying.specs.Laying.{rowOf}
+use Rattle.laying.specs.Laying.{candidateIn}
 use Prim.Native.Nat.{ℕ, _+_, _-_, _%_, _<_, _≤_}
 use borrow.Author.Needs.{needs}
 use Rattle.bg_row.proofs.inner.blocks.Statement.{statement}
 use Rattle.bg_row.proofs.inner.blocks.Tie as tie
 
 abbrev Inv-loop2 : tie.InvT-loop2
-Inv-loop2 fine block cells out₀ start c end x₀ out x = Front 256 (λ k. rowOf cells (k - k % block + fine)) out x × ((start ≤ x) × (x ≤ end))
+Inv-loop2 fine block cells out₀ start c end x₀ out x = Front 256 (λ k. candidateIn cells (k - k % block + fine)) out x × ((start ≤ x) × (x ≤ end))
 
 abbrev μ-loop2 : tie.MeasureT-loop2
 μ-loop2 fine block cells out₀ start c end x₀ out x = end - x
 
 abbrev Inv-loop : tie.InvT-loop
-Inv-loop fine block cells out₀ start₀ out start = Front 256 (λ k. rowOf cells (k - k % block + fine)) out start × ((start < 256) → start % block ≡ 0)
+Inv-loop fine block cells out₀ start₀ out start = Front 256 (λ k. candidateIn cells (k - k % block + fine)) out start × ((start < 256) → start % block ≡ 0)
 
 abbrev μ-loop : tie.MeasureT-loop
 μ-loop fine block cells out₀ start₀ out start = 256 - start
@@ -36,7 +36,7 @@ loop2-again c =
     let h = c .loop2-test .taken in
     let k : l .x < s + b = omega (arith, m, h) in
     let n : l .x < 256 = omega (arith, m, h) in
-    (front-more (l .inv .0) n _ (ap (λ (j : ℕ). rowOf (a .t1) (j + a .fine)) (sym (block-start b s (l .x) (o .inv .1 (i .loop-test .taken)) (l .inv .1 .0) k))), (omega (arith, l .inv .1 .0), omega (arith, h)))
+    (front-more (l .inv .0) n _ (ap (λ (j : ℕ). candidateIn (a .t1) (j + a .fine)) (sym (block-start b s (l .x) (o .inv .1 (i .loop-test .taken)) (l .inv .1 .0) k))), (omega (arith, l .inv .1 .0), omega (arith, h)))
 
 loop-again : tie.Need-loop-again Inv-loop2 μ-loop2 Inv-loop μ-loop
 loop-again c =

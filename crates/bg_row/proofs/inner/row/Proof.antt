@@ -2,7 +2,7 @@ use Rattle.bg_row.proofs.Decode.{cell-shown}
 use Rattle.bg_row.proofs.Spread.{within-cells}
 use Rattle.bg_row.specs.Cells.{cellAt}
 use Rattle.mosaic.specs.Mosaic.{blockIf}
-use Rattle.laying.specs.Laying.{rowOf}
+use Rattle.laying.specs.Laying.{candidateIn}
 use Rattle.line.specs.Pixels.{none}
 use Rattle.lists.specs.Tab.{tab-ext, getD-tab}
 use denote.Ref.{now}
@@ -26,7 +26,7 @@ returns c =
     let size = blockIf (p .mosaic) (a .r) in
     c .columns .ensures
     ∙ tab-ext 256 _ _
-    (λ x h. (λ i. rowOf (d .cells .ensures i) (x - x % b .block .ensures .0 i + fine))
+    (λ x h. (λ i. candidateIn (d .cells .ensures i) (x - x % b .block .ensures .0 i + fine))
     ∙ (getD-tab (cellAt v g p (d .before .direct-color .result) (s .source-line .result)) 264 (x - x % size + fine) none (within-cells size x fine h (omega arith))
     ∙ ((λ i. cellAt v g p (d .before .direct-color .ensures i) (s .source-line .ensures .0 i) (x - x % size + fine))
     ∙ cell-shown v g (a .r) p (a .y) x)))

@@ -1,5 +1,5 @@
 use Rattle.lists.specs.Filling.{Front, front-none, front-more, front-all}
-use Rattle.laying.specs.Laying.{rowOf}
+use Rattle.laying.specs.Laying.{candidateIn}
 use mathlib.Core.Path.{refl}
 use Prim.Native.Nat.{_+_, _-_}
 use borrow.Author.Needs.{needs}
@@ -7,7 +7,7 @@ use Rattle.bg_row.proofs.inner.shifted.Statement.{statement}
 use Rattle.bg_row.proofs.inner.shifted.Tie as tie
 
 abbrev Inv-loop : tie.InvT-loop
-Inv-loop fine cells out₀ x₀ out x = Front 256 (λ k. rowOf cells (k + fine)) out x
+Inv-loop fine cells out₀ x₀ out x = Front 256 (λ k. candidateIn cells (k + fine)) out x
 
 abbrev μ-loop : tie.MeasureT-loop
 μ-loop fine cells out₀ x₀ out x = 256 - x

@@ -4,7 +4,7 @@ use mathlib.Core.Path.{_≡_, _∙_}
 use native.Mathlib.Omega.{arith}
 use lib.ListN.{getD, length-set}
 use Rattle.lists.specs.Filling.{Front, front-none, front-more, front-at, front-all}
-use Rattle.colour.specs.Colour.{brightnessOf}
+use Rattle.colour.specs.Colour.{atBrightness}
 use Rattle.composite.specs.Composite.{rowByteAt}
 use Rattle.composite.proofs.Bytes.{byte-is}
 use Rattle.composite.proofs.inner.brighten.Statement.{statement}
@@ -28,7 +28,7 @@ slice-write-row-3 c =
     simp length-set (omega (arith, c .before .before .before .before .loop .inv .long, c .before .before .before .loop-test .taken))
 
 loop-again : tie.Need-loop-again Inv-loop μ-loop
-unfolding brightnessOf
+unfolding atBrightness
 loop-again c =
     let l = c .before .before .before in
     let at = l .before .loop in

@@ -1,5 +1,5 @@
 use borrow.Author.Needs.{needs}
-use Rattle.laying.specs.Laying.{marked, rowOf}
+use Rattle.laying.specs.Laying.{marked, candidateIn}
 use Rattle.lists.specs.Filling.{Filled, filled-none, filled-read, filled-more, filled-all, long-field}
 use Rattle.line.specs.Pixels.{noPixel, deposited}
 use lib.ListN.{getD}
@@ -10,7 +10,7 @@ use Rattle.laying.proofs.inner.lay_line.Statement.{statement}
 use Rattle.laying.proofs.inner.lay_line.Tie as tie
 
 abbrev Inv-loop : tie.InvT-loop
-Inv-loop win row mask out₀ x₀ out x = Filled 256 (λ k. deposited (getD out₀ k noPixel) (marked (not (win && getD mask k false)) (rowOf row k))) out₀ out x
+Inv-loop win row mask out₀ x₀ out x = Filled 256 (λ k. deposited (getD out₀ k noPixel) (marked (not (win && getD mask k false)) (candidateIn row k))) out₀ out x
 
 abbrev μ-loop : tie.MeasureT-loop
 μ-loop win row mask out₀ x₀ out x = 256 - x

@@ -1,7 +1,7 @@
 use Prim.Native.Nat.{ℕ}
 use Rattle.laying.specs.Unlit.{unlit-line}
 use Rattle.laying.proofs.Screens.{laid-as-shown}
-use Rattle.laying.specs.Laying.{onScreen, rowOf}
+use Rattle.laying.specs.Laying.{onScreen, candidateIn}
 use Rattle.line.specs.Pixels.{noPixel, deposited}
 use Rattle.lists.specs.Filling.{long-field}
 use Rattle.lists.specs.Tab.{tab-ext}
@@ -17,13 +17,13 @@ returns c =
     let a = c .before .before .args in
     let t : ℕ → Bool = λ x. not (a .win && getD (a .mask) x false) in
     c .lay-line .ensures
-    ∙ tab-ext 256 _ _ (λ x h. laid-as-shown (getD (a .line) x noPixel) (t x) (rowOf (a .row) x)
-    ∙ ap (λ (b : Bool). deposited (getD (a .line) x noPixel) (onScreen (b && t x) (rowOf (a .row) x))) (sym (c .before .if1 .taken)))
+    ∙ tab-ext 256 _ _ (λ x h. laid-as-shown (getD (a .line) x noPixel) (t x) (candidateIn (a .row) x)
+    ∙ ap (λ (b : Bool). deposited (getD (a .line) x noPixel) (onScreen (b && t x) (candidateIn (a .row) x))) (sym (c .before .if1 .taken)))
 
 returns-2 : tie.Need-returns-2
 returns-2 c =
     let a = c .before .args in
-    unlit-line (λ x. a .win && getD (a .mask) x false) (rowOf (a .row)) (a .line) (c .if1 .left) (search (needs, long-field))
+    unlit-line (λ x. a .win && getD (a .mask) x false) (candidateIn (a .row)) (a .line) (c .if1 .left) (search (needs, long-field))
 
 pub lay-screen-spec : {M : Type 1} → statement M
 lay-screen-spec = tie.close (tie.spec (λ c κs. search needs) returns returns-2)

@@ -8,7 +8,7 @@ use Rattle.lists.specs.Tab.{tab-ext, getD-tab}
 use Rattle.blend.specs.declared.ColorMath.{ColorMath}
 use Rattle.blend.specs.Blend.{settingsOf, region}
 use Rattle.packed_composite.specs.Blended.{blended, mixedAt}
-use Rattle.packed_row.specs.Screens.{insideAt, screenAt, subAt, colourOfRow}
+use Rattle.packed_row.specs.Screens.{insideAt, screenAt, packedSubAt, colourOfRow}
 use Rattle.packed_row.proofs.Idle.{idle-is}
 use Rattle.packed_row.proofs.inner.colors.Statement.{statement}
 use Rattle.packed_row.proofs.inner.colors.Tie as tie
@@ -25,7 +25,7 @@ abbrev mainOf : tie.Start → ℕ → ℕ
 mainOf s = let p = s .args in screenAt (now (p .bg1)) (now (p .bg2)) (now (p .bg3)) (now (p .bg4)) (now (p .obj)) (p .back) (p .r) (p .r .tm) (p .r .tmw)
 
 abbrev subOf : tie.Start → ℕ → ℕ
-subOf s = let p = s .args in subAt (now (p .bg1)) (now (p .bg2)) (now (p .bg3)) (now (p .bg4)) (now (p .obj)) (p .r)
+subOf s = let p = s .args in packedSubAt (now (p .bg1)) (now (p .bg2)) (now (p .bg3)) (now (p .bg4)) (now (p .obj)) (p .r)
 
 main-is : (c : tie.After-screen) (x : ℕ) → x < 256 → getD (c .screen .result) x 0 ≡ mainOf (start c) x
 main-is c x h = (λ i. getD (c .screen .ensures i) x 0) ∙ getD-tab (mainOf (start c)) 256 x 0 h

@@ -2,12 +2,12 @@ use Prim.Native.Nat.{_+_, _/_, _-_}
 use mathlib.Core.Path.{_≡_, sym, _∙_}
 use borrow.Author.Needs.{needs}
 use Rattle.lists.specs.Filling.{Front, front-none, front-more, front-all}
-use Rattle.replay.specs.Drawing.{afterOf, wordOf, wordsOf, after-none, after-next}
+use Rattle.replay.specs.Drawing.{afterOf, drawnWord, drawnWords, after-none, after-next}
 use Rattle.replay.proofs.drawing.words.Statement.{statement}
 use Rattle.replay.proofs.drawing.words.Tie as tie
 
 abbrev Inv-loop : tie.InvT-loop
-Inv-loop seed all₀ x₀ i₀ all x i = Front 256 (λ k. wordOf (k + 1) seed) all i × (x ≡ afterOf i seed)
+Inv-loop seed all₀ x₀ i₀ all x i = Front 256 (λ k. drawnWord (k + 1) seed) all i × (x ≡ afterOf i seed)
 
 abbrev μ-loop : tie.MeasureT-loop
 μ-loop seed all₀ x₀ i₀ all x i = 256 - i
@@ -22,7 +22,7 @@ loop-again c =
     (front-more (l .before .loop .inv .0) (l .loop-test .taken) _ (c .word .ensures ∙ (λ i. e i / 65536)), e)
 
 returns : tie.Need-returns Inv-loop μ-loop
-unfolding wordsOf
+unfolding drawnWords
 returns c = front-all (c .before .loop .inv .0) (c .loop-test .left)
 
 pub words-spec : {M : Type 1} → statement M

@@ -2,14 +2,14 @@ use Prim.Native.Nat.{_+_, _*_, _/_, _-_}
 use mathlib.Core.Path.{_≡_, sym, _∙_}
 use borrow.Author.Needs.{needs}
 use Rattle.lists.specs.Filling.{Front, front-none, front-more, front-all}
-use Rattle.replay.specs.Drawing.{afterOf, wordOf, after-none, after-twice}
+use Rattle.replay.specs.Drawing.{afterOf, drawnWord, after-none, after-twice}
 use Rattle.replay.specs.Memory.{heldOf, vramOf}
 use Rattle.replay.proofs.memory.vram.Statement.{statement}
 use Rattle.replay.proofs.memory.vram.Tie as tie
 
 abbrev Inv-loop : tie.InvT-loop
 Inv-loop filling seed words₀ x₀ i₀ words x i =
-    Front 32768 (λ k. heldOf filling k (wordOf (k * 2 + 1) seed) (wordOf (k * 2 + 2) seed)) words i × (x ≡ afterOf (i * 2) seed)
+    Front 32768 (λ k. heldOf filling k (drawnWord (k * 2 + 1) seed) (drawnWord (k * 2 + 2) seed)) words i × (x ≡ afterOf (i * 2) seed)
 
 abbrev μ-loop : tie.MeasureT-loop
 μ-loop filling seed words₀ x₀ i₀ words x i = 32768 - i

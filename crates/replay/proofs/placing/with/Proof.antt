@@ -1,7 +1,7 @@
 use Prim.Native.Nat.{_+_, _*_, _/_, _%_}
 use mathlib.Core.Path.{_∙_}
 use lib.ListN.{getD, set}
-use Rattle.digest.specs.Digest.{packedOf}
+use Rattle.digest.specs.Digest.{secondTableByte}
 use Rattle.replay.specs.Placing.{withOf}
 use borrow.Author.Needs.{needs}
 use Rattle.replay.proofs.placing.with.Statement.{statement}
@@ -17,7 +17,7 @@ returns c =
     let a = bits .before .before .args in
     let i = a .sprite % 128 in
     let l = a .sprites in
-    let two = bits .packed .ensures ∙ (λ j. packedOf (getD l (512 + i / 4) 0) (i % 4) ((a .x9 / 256 % 2 + bits .before .one .ensures .0 j * 2) % 4)) in
+    let two = bits .packed .ensures ∙ (λ j. secondTableByte (getD l (512 + i / 4) 0) (i % 4) ((a .x9 / 256 % 2 + bits .before .one .ensures .0 j * 2) % 4)) in
     λ j. set
     (set
     (set (set (set l (512 + i / 4) (two j)) (i * 4) (first .low .ensures j)) (i * 4 + 1) (second .low2 .ensures j))

@@ -2,12 +2,12 @@ use Prim.Native.Nat.{_-_}
 use borrow.Author.Needs.{needs}
 use lib.ListN.{getD}
 use Rattle.lists.specs.Filling.{Front, front-none, front-more, front-all}
-use Rattle.replay.specs.Section.{byteOf, sectionOf}
+use Rattle.replay.specs.Section.{drawnByte, drawnSection}
 use Rattle.replay.proofs.section.section.Statement.{statement}
 use Rattle.replay.proofs.section.section.Tie as tie
 
 abbrev Inv-loop : tie.InvT-loop
-Inv-loop seed order bytes₀ k₀ bytes k = Front 48 (λ j. byteOf (getD order j 0) seed) bytes k
+Inv-loop seed order bytes₀ k₀ bytes k = Front 48 (λ j. drawnByte (getD order j 0) seed) bytes k
 
 abbrev μ-loop : tie.MeasureT-loop
 μ-loop seed order bytes₀ k₀ bytes k = 48 - k
@@ -19,7 +19,7 @@ loop-again : tie.Need-loop-again Inv-loop μ-loop
 loop-again c = let l = c .before in front-more (l .before .loop .inv) (l .loop-test .taken) _ (c .byte .ensures)
 
 returns : tie.Need-returns Inv-loop μ-loop
-unfolding sectionOf
+unfolding drawnSection
 returns c = front-all (c .before .loop .inv) (c .loop-test .left)
 
 pub section-spec : {M : Type 1} → statement M

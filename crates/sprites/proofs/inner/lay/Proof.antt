@@ -2,7 +2,7 @@ use lib.ListN.{length}
 use denote.Ref.{now}
 use mathlib.Core.Path.{_≡_, sym, _∙_}
 use Rattle.lists.specs.Filling.{long-field}
-use Rattle.laying.specs.Laying.{layLines, rowOf}
+use Rattle.laying.specs.Laying.{layLines, candidateIn}
 use Rattle.laying.specs.Unlit.{unlit-lays-nothing}
 use Rattle.laying.proofs.Screens.{lay-row}
 use Rattle.sprites.specs.Sprites.{spritePixel, spritesShown}
@@ -36,7 +36,7 @@ returns-2 c =
     let a = w .before .before .before .before .args in
     let pixel = spritePixel (now (a .vram)) (now (a .cgram)) (now (a .oam)) (a .r) (a .y) in
     c .lay-few .ensures
-    ∙ ((λ i. layLines (w .shown .ensures i) (rowOf (l .line .ensures i)) (a .lines)) ∙ lay-row (spritesShown (a .r)) pixel (a .lines))
+    ∙ ((λ i. layLines (w .shown .ensures i) (candidateIn (l .line .ensures i)) (a .lines)) ∙ lay-row (spritesShown (a .r)) pixel (a .lines))
 
 pub lay-spec : {M : Type 1} → statement M
 lay-spec = tie.close (tie.spec (λ c κs. search needs) returns (λ c κs. search needs) (λ c κs. search needs) returns-2)
