@@ -14,7 +14,8 @@ ghost use Prim.Native.Nat.{_<_};
 ghost use lib.ListN.{length};
 ghost use Rattle.line.specs.Pixels.{backgroundOf};
 ghost use Rattle.laying.specs.Laying.{candidatesOf, layLines};
-ghost use Rattle.bg_row.specs.Row.{BgRowSound, bgPixel};
+ghost use Rattle.bg_row.specs.Row.{bgPixel};
+ghost use Rattle.bg_row.specs.steps.Row.{BgRowSound};
 ghost use Rattle.background.specs.Background.{bgShownBy};
 
 // Where the background is shown.

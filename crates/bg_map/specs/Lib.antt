@@ -1,4 +1,4 @@
 pub mod Source
 pub mod Map
-pub mod Rows
-pub mod Edges
+pub mod theorems
+pub mod steps

@@ -7,7 +7,7 @@ ghost use mathlib.Core.Path.{_≡_};
 ghost use Prim.Native.Nat.{_/_, _<_, _≤_};
 ghost use Rattle.bg_map.specs.Source.{sideOf, extentOf, sourceColumn, sourceLine};
 ghost use Rattle.bg_map.specs.Map.{screensWide};
-ghost use Rattle.bg_map.specs.Rows.{mapRow, entryIn};
+ghost use Rattle.bg_map.specs.steps.Rows.{mapRow, entryIn};
 
 // The tile side.
 fn side(tile16: bool) -> usize

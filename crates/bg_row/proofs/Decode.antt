@@ -10,10 +10,10 @@ use Rattle.mosaic.specs.Mosaic.{blockIf}
 use Rattle.bg_map.specs.declared.BgParams.{BgParams}
 use Rattle.bg_map.specs.Source.{extentOf, sourceColumn, sourceLine}
 use Rattle.bg_tile.specs.Tile.{bgColours, isEight, pixelAt}
-use Rattle.bg_tile.specs.Characters.{characterRowAt, cellIn}
+use Rattle.bg_tile.specs.steps.Characters.{characterRowAt, cellIn}
 use Rattle.bg_tile.proofs.Laws.{cell-is-pixel}
 use Rattle.bg_row.specs.Row.{bgPixel}
-use Rattle.bg_row.specs.Cells.{cellColumn, cellAt}
+use Rattle.bg_row.specs.steps.Cells.{cellColumn, cellAt}
 
 -- a character's cells lie side by side, from a multiple of 8 on
 side-by-side : (a b : Bool) (s j k : ℕ) → k < 8 →

@@ -17,8 +17,9 @@ ghost use Rattle.lists.specs.Tab.{tab};
 ghost use Rattle.line.specs.Pixels.{backgroundOf};
 ghost use Rattle.laying.specs.Laying.{candidateIn};
 ghost use Rattle.bg_map.specs.Source.{extentOf};
-ghost use Rattle.bg_row.specs.Row.{BgRowSound, bgPixel};
-ghost use Rattle.bg_row.specs.Cells.{cellAt};
+ghost use Rattle.bg_row.specs.Row.{bgPixel};
+ghost use Rattle.bg_row.specs.steps.Row.{BgRowSound};
+ghost use Rattle.bg_row.specs.steps.Cells.{cellAt};
 
 // The cells of line py of the map: its pixels from the last multiple of 8 that the scroll has
 // passed, 33 characters of them.

@@ -17,8 +17,8 @@ use Rattle.bg_map.specs.declared.MapEntry.{MapEntry}
 use Rattle.bg_map.specs.Source.{sideOf}
 use Rattle.bg_map.specs.Map.{mapWord, entryOf, entryAt}
 use Rattle.bg_tile.specs.Tile.{fineOf, bgIndexAt, colourCount, startOf, bgColours, isEight, pixelUnder, pixelAt}
-use Rattle.tiles_row.specs.Rows.{rowIndex}
-use Rattle.bg_tile.specs.Characters.{characterRowUnder, characterRowAt, cellIn}
+use Rattle.tiles_row.specs.steps.Rows.{rowIndex}
+use Rattle.bg_tile.specs.steps.Characters.{characterRowUnder, characterRowAt, cellIn}
 
 pub character-small : (n words : ℕ) → words ≤ 32 → n % 1024 * words ≤ 1023 * 32
 character-small n words h = let k : n % 1024 ≤ 1023 = omega arith in mul-le-mul k h

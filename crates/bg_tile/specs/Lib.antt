@@ -1,2 +1,2 @@
 pub mod Tile
-pub mod Characters
+pub mod steps

@@ -13,10 +13,10 @@ ghost use Prim.Native.Nat.{_+_, _<_, _≤_};
 ghost use lib.ListN.{length};
 ghost use Rattle.line.specs.Pixels.{backgroundOf};
 ghost use Rattle.bg_map.specs.Source.{extentOf};
-ghost use Rattle.bg_map.specs.Rows.{mapRow};
+ghost use Rattle.bg_map.specs.steps.Rows.{mapRow};
 ghost use Rattle.bg_tile.specs.Tile.{fineOf, characterWord, priorityOf, colourCount, startOf, bgColours, isEight, colourIn, pixelAt};
-ghost use Rattle.tiles_row.specs.Rows.{TileRowSound};
-ghost use Rattle.bg_tile.specs.Characters.{characterRowAt, cellIn};
+ghost use Rattle.tiles_row.specs.steps.Rows.{TileRowSound};
+ghost use Rattle.bg_tile.specs.steps.Characters.{characterRowAt, cellIn};
 
 // The place in its tile of a place of the map, along one axis.
 fn fine(at: usize, tile16: bool, flip: bool) -> usize

@@ -27,10 +27,6 @@ settingsOf r = record {
 abbrev pub region : ℕ → Bool → Bool
 region n inside = cond (eqb n 0) true (cond (eqb n 1) inside (cond (eqb n 2) (not inside) false))
 
--- the regions that ask for the window
-abbrev pub byWindow : ℕ → Bool
-byWindow n = eqb n 1 || eqb n 2
-
 -- BG1-4, sprites, backdrop
 abbrev pub mathBit : Layer → ℕ
 mathBit Bg1 = 0

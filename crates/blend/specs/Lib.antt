@@ -1,2 +1,2 @@
 pub mod Blend
-pub mod Bit15
+pub mod steps

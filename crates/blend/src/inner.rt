@@ -4,7 +4,8 @@ use line::LinePixel;
 use registers::inner::bit;
 ghost use mathlib.Core.Path.{_≡_};
 ghost use Prim.Native.Nat.{_<_};
-ghost use Rattle.blend.specs.Blend.{region, byWindow, mathBit, markNeeded, isBackdrop, enabled};
+ghost use Rattle.blend.specs.Blend.{region, mathBit, markNeeded, isBackdrop, enabled};
+ghost use Rattle.blend.specs.steps.Blend.{byWindow};
 
 // Always, inside, outside, never.
 pub fn region(mode: u8, inside: bool) -> bool

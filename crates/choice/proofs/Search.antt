@@ -10,9 +10,12 @@ use lib.ListN.{length, take, set, replicate, length-append, length-map}
 use lib.Seq.{take-at}
 use lib.Dec.{ltb}
 use borrow.Author.Tests.{lt-ltb}
-use Rattle.lists.specs.Tab.{tab, tab-none, tab-more, tab-split}
-use Rattle.lists.specs.Places.{places, places-none, places-more}
-use Rattle.lists.specs.Keep.{keep, keep-none, keep-append, keep-yes, keep-no}
+use Rattle.lists.specs.Tab.{tab}
+use Rattle.lists.specs.theorems.Tab.{tab-none, tab-more, tab-split}
+use Rattle.lists.specs.Places.{places}
+use Rattle.lists.specs.theorems.Places.{places-none, places-more}
+use Rattle.lists.specs.Keep.{keep}
+use Rattle.lists.specs.theorems.Keep.{keep-none, keep-append, keep-yes, keep-no}
 use Rattle.oam.specs.Sprites.{spriteOf}
 use Rattle.sprite_row.specs.SpriteRow.{inRange, tilesOf}
 use Rattle.choice.specs.declared.VisibleSprite.{VisibleSprite}

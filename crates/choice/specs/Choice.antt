@@ -46,10 +46,6 @@ tileSum oam objsel (i ∷ l) = tilesOf objsel (spriteOf oam i objsel) + tileSum 
 abbrev pub visible : List ℕ → ℕ → ℕ → VisibleSprite
 visible oam objsel i = record { index = i; sprite = spriteOf oam i objsel }
 
--- the sprite at place k of a search from a start
-abbrev pub placedAt : List ℕ → ℕ → ℕ → ℕ → VisibleSprite
-placedAt oam objsel start k = visible oam objsel (searchAt start k)
-
 -- what stands in a place that holds no sprite
 abbrev pub blankPlace : VisibleSprite
 blankPlace = record { index = 0; sprite = blankSprite }

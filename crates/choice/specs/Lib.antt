@@ -1,2 +1,4 @@
 pub mod Choice
 pub mod Answers
+pub mod theorems
+pub mod steps

@@ -8,7 +8,8 @@ use sprite_row::inner::in_range;
 ghost use mathlib.Core.Path.{_≡_};
 ghost use Prim.Native.Nat.{_<_};
 ghost use lib.ListN.{length};
-ghost use Rattle.choice.specs.Choice.{searchStart, placedAt, blankPlace, noneChosen, chosenOf};
+ghost use Rattle.choice.specs.Choice.{searchStart, blankPlace, noneChosen, chosenOf};
+ghost use Rattle.choice.specs.steps.Choice.{placedAt};
 
 // The places of the list.
 const MAX_SPRITES: usize = 32;

@@ -8,7 +8,8 @@ use Rattle.line.specs.declared.Layer.the-variants.{Backdrop, Bg1, Bg2, Bg3, Bg4
 use Rattle.line.specs.declared.LinePixel.{LinePixel}
 use Rattle.colour.specs.Colour.{mathOf}
 use Rattle.blend.specs.declared.ColorMath.{ColorMath}
-use Rattle.blend.specs.Blend.{region, byWindow, mathBit, markNeeded, enabled, keptColour, operandOf, standsIn, halves, colourOf}
+use Rattle.blend.specs.Blend.{region, mathBit, markNeeded, enabled, keptColour, operandOf, standsIn, halves, colourOf}
+use Rattle.blend.specs.steps.Blend.{byWindow}
 use lib.Dec.{eqb}
 
 -- a region that does not ask for the window is the same inside and outside

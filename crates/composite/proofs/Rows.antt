@@ -5,7 +5,8 @@ use mathlib.Core.Bool.{Bool, true, false, cond, _&&_}
 use mathlib.Core.List.{List}
 use native.Mathlib.Omega.{arith}
 use lib.ListN.{getD}
-use Rattle.lists.specs.Tab.{tab, tab-ext, getD-tab}
+use Rattle.lists.specs.Tab.{tab}
+use Rattle.lists.specs.theorems.Tab.{tab-ext, getD-tab}
 use Rattle.registers.specs.declared.PPURegisters.{PPURegisters}
 use Rattle.registers.specs.Screen as screen
 use Rattle.window.specs.declared.Window.{Window}

@@ -1,2 +1,2 @@
 pub mod Composite
-pub mod Bit15
+pub mod steps

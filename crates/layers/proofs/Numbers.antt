@@ -7,7 +7,7 @@ use Rattle.line.specs.Pixels.{backgroundOf}
 use Rattle.bg_map.specs.declared.BgParams.{BgParams}
 use Rattle.bg_row.specs.Row as row
 use Rattle.modes.specs.Modes.{paramsOf}
-use Rattle.modes.specs.Own.{own-number}
+use Rattle.modes.specs.theorems.Own.{own-number}
 
 -- what a background's row asks for holds of its own parameters, where the row's tests are passed
 pub bg-tested : {colours y : ℕ} {p : BgParams} (r : PPURegisters) (b : ℕ) → colours ≡ 256 → y < 224 → p ≡ paramsOf r b → row.Sound colours (p .layer) y

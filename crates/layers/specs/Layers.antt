@@ -6,7 +6,7 @@ use lib.ListN.{length, getD}
 use lib.Dec.{ltb, eqb}
 use Rattle.refusal.specs.Answer.{Answer, value, _andThen_, Outcome, outcome}
 use Rattle.registers.specs.declared.PPURegisters.{PPURegisters}
-pub use Rattle.registers.specs.Scene.{Scene, scene}
+use Rattle.registers.specs.Scene.{Scene, scene}
 use Rattle.row_tests.specs.Tests.{colourTest, layerTests}
 use Rattle.line.specs.declared.Candidate.{Candidate}
 use Rattle.line.specs.declared.Lines.{Lines}

@@ -1,4 +1,4 @@
 pub mod Layers
 pub mod Numbers
-pub mod Ties
 pub mod Order
+pub mod theorems

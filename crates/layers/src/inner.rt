@@ -12,7 +12,8 @@ ghost use Rattle.modes.specs.Modes.{paramsOf};
 ghost use Rattle.laying.specs.Laying.{layLines};
 ghost use Rattle.bg_row.specs.Row.{bgPixel};
 ghost use Rattle.background.specs.Background.{bgShownBy};
-ghost use Rattle.layers.specs.Layers.{scene, layerCandidates, layered};
+ghost use Rattle.registers.specs.Scene.{scene};
+ghost use Rattle.layers.specs.Layers.{layerCandidates, layered};
 
 // Both lines after background bg is laid. Where neither screen lights it, nothing is drawn.
 fn lay_bg(lines: Lines, vram: &[u16], cgram: &[u16], r: PPURegisters, y: usize, bg: usize) -> Lines

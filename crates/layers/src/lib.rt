@@ -14,7 +14,8 @@ use registers::constants::SCREEN_WIDTH;
 use row_tests::inner::layer_tested;
 ghost use mathlib.Core.Path.{_≡_};
 ghost use Rattle.laying.specs.Answers.{candidatesMean, linesMean};
-ghost use Rattle.layers.specs.Layers.{scene, backdropOutcome, layerCandidatesAnswer, layerOutcome};
+ghost use Rattle.registers.specs.Scene.{scene};
+ghost use Rattle.layers.specs.Layers.{backdropOutcome, layerCandidatesAnswer, layerOutcome};
 
 // Both lines of a row before any layer is laid. On a refusal they are black.
 pub fn backdrop_lines(cgram: &[u16], r: PPURegisters) -> LinesAnswer

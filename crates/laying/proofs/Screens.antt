@@ -4,7 +4,8 @@ use mathlib.Core.Path.{_≡_, refl, sym, ap, _∙_}
 use mathlib.Core.Bool.{Bool, true, false, cond, _&&_, _||_, not, false≢true}
 use mathlib.Core.List.{List}
 use lib.ListN.{getD}
-use Rattle.lists.specs.Tab.{tab, tab-ext, getD-tab}
+use Rattle.lists.specs.Tab.{tab}
+use Rattle.lists.specs.theorems.Tab.{tab-ext, getD-tab}
 use Rattle.window.specs.declared.Window.{Window}
 use Rattle.window.specs.Window.{masked}
 use Rattle.line.specs.declared.LinePixel.{LinePixel}
@@ -12,7 +13,8 @@ use Rattle.line.specs.declared.Candidate.{Candidate}
 use Rattle.line.specs.declared.Lines.{Lines}
 use Rattle.line.specs.Pixels.{noPixel, none, deposited}
 use Rattle.laying.specs.declared.Shown.{Shown}
-use Rattle.laying.specs.Laying.{shownAt, onMain, onSub, onScreen, layLine, layLines, candidateIn, marked}
+use Rattle.laying.specs.Laying.{shownAt, onMain, onSub, onScreen, layLine, layLines, candidateIn}
+use Rattle.laying.specs.steps.Laying.{marked}
 
 -- a mask that is not made, and one that is
 pub mask-off : (on m : Bool) → not on ≡ true → false ≡ on && m

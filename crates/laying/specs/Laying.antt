@@ -45,7 +45,3 @@ layLines s row lines = record {
 -- what an array of candidates has at column x
 abbrev pub candidateIn : List Candidate → ℕ → Candidate
 candidateIn row x = getD row x none
-
--- the same pixel, opaque only where t holds too
-abbrev pub marked : Bool → Candidate → Candidate
-marked t c = record { opaque = c .opaque && t; pixel = c .pixel }

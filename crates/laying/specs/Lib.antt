@@ -1,5 +1,5 @@
 pub mod Laying
-pub mod Unlit
 pub mod Order
 pub mod Answers
-pub mod Recoloured
+pub mod theorems
+pub mod steps

@@ -9,7 +9,8 @@ ghost use mathlib.Core.Bool.{false, _&&_, not};
 ghost use lib.ListN.{getD};
 ghost use Rattle.lists.specs.Tab.{tab};
 ghost use Rattle.window.specs.Window.{masked};
-ghost use Rattle.laying.specs.Laying.{onScreen, candidatesOf, marked, candidateIn, layLine};
+ghost use Rattle.laying.specs.Laying.{onScreen, candidatesOf, candidateIn, layLine};
+ghost use Rattle.laying.specs.steps.Laying.{marked};
 
 // The candidate of a layer that has c, where it is shown.
 pub fn on_screen(c: Candidate, shown: bool) -> Candidate

@@ -1,3 +1,4 @@
 pub mod Pixels
 pub mod Answers
-pub mod Recoloured
+pub mod theorems
+pub mod steps

@@ -1,9 +1,8 @@
 -- Line pixels, candidates and lines.
-use Prim.Native.Nat.{ℕ, _+_, _*_, _%_, _<_}
-use mathlib.Core.Path.{_≡_}
+use Prim.Native.Nat.{ℕ, _+_, _*_, _%_}
 use mathlib.Core.Bool.{false, cond, _&&_}
 use mathlib.Core.List.{List}
-use lib.ListN.{length, getD, replicate, length-replicate, getD-replicate}
+use lib.ListN.{replicate}
 use lib.Dec.{eqb, leb}
 use Rattle.line.specs.declared.Layer.{Layer}
 use Rattle.line.specs.declared.Layer.the-variants.{Backdrop, Bg1, Bg2, Bg3, Bg4, Obj}
@@ -55,12 +54,3 @@ backdropLine colour = replicate 256 (backdropOf colour)
 -- main starts as colour word 0, sub as coldata, both layer backdrop
 abbrev pub backdropLines : ℕ → ℕ → Lines
 backdropLines main sub = record { main = backdropLine main; sub = backdropLine sub }
-
-module _ (colour : ℕ) where
-  pub length-backdrop : length (backdropLine colour) ≡ 256
-  unfolding backdropLine
-  length-backdrop = length-replicate 256 (backdropOf colour)
-
-  pub getD-backdrop : (x : ℕ) → x < 256 → getD (backdropLine colour) x noPixel ≡ backdropOf colour
-  unfolding backdropLine
-  getD-backdrop x h = getD-replicate 256 x (backdropOf colour) noPixel h

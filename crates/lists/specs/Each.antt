@@ -1,60 +1,7 @@
--- What holds of each element of a list, and parts of lists.
-use Prim.Native.Nat.{ℕ, zero, suc, _-_, _<_}
-use mathlib.Core.Path.{_≡_, refl}
-use mathlib.Core.Bool.{Bool, true, false, cond}
-use mathlib.Core.List.{List, [], _∷_, _++_, map}
-use native.Mathlib.Omega.{arith}
-use native.Mathlib.Nat.{zero-sub, sub-zero, suc-sub-suc}
-use lib.ListN.{length, getD, take, drop}
-use Rattle.lists.specs.Tab.{tab}
-use Rattle.lists.specs.Keep.{keep}
+-- What holds of each element of a list.
+use mathlib.Core.List.{List, [], _∷_}
 
 module _ {A : Type 0} (P : A → Type 0) where
   abbrev pub Each : List A → Type 0
   Each [] = Unit
   Each (a ∷ l) = P a × Each l
-
-  pub each-append : (l m : List A) → Each l → Each m → Each (l ++ m)
-  each-append [] m h k = k
-  each-append (a ∷ l) m h k = (h .0, each-append l m (h .1) k)
-
-  pub each-tab : (n : ℕ) (f : ℕ → A) → ((i : ℕ) → i < n → P (f i)) → Each (tab n f)
-  unfolding tab
-  each-tab zero f h = tt
-  each-tab (suc n) f h = each-append (tab n f) (f n ∷ []) (each-tab n f (λ i b. h i (omega arith))) (h n (omega arith), tt)
-
-  pub each-take : (n : ℕ) (l : List A) → Each l → Each (take n l)
-  each-take zero l h = tt
-  each-take (suc n) [] h = tt
-  each-take (suc n) (a ∷ l) h = (h .0, each-take n l (h .1))
-
-  module _ (test : A → Bool) where
-    kept : (t : Bool) (a : A) (l : List A) → P a → Each l → Each (cond t (a ∷ l) l)
-    kept true a l h k = (h, k)
-    kept false a l h k = k
-
-    pub each-keep : (l : List A) → Each l → Each (keep test l)
-    unfolding keep
-    each-keep [] h = tt
-    each-keep (a ∷ l) h = kept (test a) a (keep test l) (h .0) (each-keep l (h .1))
-
--- the first of two lists, one after the other
-pub take-append : {A : Type 0} (n : ℕ) (l m : List A) → take n (l ++ m) ≡ take n l ++ take (n - length l) m
-take-append zero l m = rw (zero-sub (length l))
-take-append (suc n) [] m = rw (sub-zero (suc n))
-take-append (suc n) (a ∷ l) m = rw (suc-sub-suc n (length l)) (λ i. a ∷ take-append n l m i)
-
-pub take-map : {A B : Type 0} (f : A → B) (n : ℕ) (l : List A) → take n (map f l) ≡ map f (take n l)
-take-map f zero l = refl
-take-map f (suc n) [] = refl
-take-map f (suc n) (a ∷ l) = λ i. f a ∷ take-map f n l i
-
-pub drop-map : {A B : Type 0} (f : A → B) (n : ℕ) (l : List A) → drop n (map f l) ≡ map f (drop n l)
-drop-map f zero l = refl
-drop-map f (suc n) [] = refl
-drop-map f (suc n) (a ∷ l) = drop-map f n l
-
-pub getD-map : {A B : Type 0} (f : A → B) (l : List A) (i : ℕ) (d : A) → getD (map f l) i (f d) ≡ f (getD l i d)
-getD-map f [] i d = refl
-getD-map f (a ∷ l) zero d = refl
-getD-map f (a ∷ l) (suc i) d = getD-map f l i d

@@ -1,8 +1,8 @@
 pub mod Tab
-pub mod Filling
 pub mod Keep
 pub mod Runs
 pub mod Places
 pub mod Each
 pub mod Apart
-pub mod Changed
+pub mod theorems
+pub mod steps

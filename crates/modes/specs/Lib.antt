@@ -1,4 +1,5 @@
 pub mod Modes
 pub mod Answers
 pub mod Ties
-pub mod Own
+pub mod theorems
+pub mod steps

@@ -1,15 +1,8 @@
--- No two layers of a mode share a priority: one test over the table of modes.
-use Prim.Native.Nat.{ℕ, _%_}
-use mathlib.Core.Path.{_≡_, refl}
-use mathlib.Core.Bool.{Bool, true, false, cond}
+-- The priorities of each layer of a mode.
+use Prim.Native.Nat.{ℕ}
+use mathlib.Core.Bool.{Bool, true, false}
 use mathlib.Core.List.{List, [], _∷_, _++_, map}
-use lib.ListN.{length}
-use lib.Dec.{eqb}
-use Rattle.lists.specs.Each.{Each}
-use Rattle.lists.specs.Apart.{holds, clearOf, clearOfAll, apart}
-use Rattle.registers.specs.Bits.{bitOf}
 use Rattle.modes.specs.declared.BgMode.{BgMode}
-use Rattle.modes.specs.Modes.{mode0, mode1, mode3, modeRows}
 
 -- the priorities of a background, and of the sprites
 abbrev pub priorities : Bool → ℕ → ℕ → List ℕ
@@ -25,34 +18,3 @@ spritePriorities = 3 ∷ 6 ∷ 9 ∷ 12 ∷ []
 -- those of the five layers of a mode, by their numbers
 abbrev pub layerPriorities : List BgMode → List (List ℕ)
 layerPriorities rows = map prioritiesOf rows ++ (spritePriorities ∷ [])
-
--- the table of modes, mode 1 without bgmode bit 3 and with it
-abbrev pub modeTable : List (List BgMode)
-modeTable = mode0 ∷ mode1 5 ∷ mode1 13 ∷ mode3 ∷ []
-
--- no two layers share a priority, in any mode of the table
-abbrev NoneShared : List BgMode → Type 0
-NoneShared rows = apart (layerPriorities rows) ≡ true
-
-none-shared : Each NoneShared modeTable
-unfolding holds clearOf clearOfAll apart
-none-shared = (refl, (refl, (refl, (refl, tt))))
-
--- and each mode is in the table
-in-table : (P : List BgMode → Type 0) → Each P modeTable → (zero three lifted : Bool) →
-    P (cond zero mode0 (cond three mode3 (mode1 (cond lifted 13 5))))
-in-table P e true three lifted = e .0
-in-table P e false true lifted = e .1 .1 .1 .0
-in-table P e false false true = e .1 .1 .0
-in-table P e false false false = e .1 .0
-
-pub no-shared-priority : (bgmode : ℕ) → apart (layerPriorities (modeRows bgmode)) ≡ true
-unfolding modeRows
-no-shared-priority bgmode =
-    in-table NoneShared none-shared (eqb (bgmode % 8) 0) (eqb (bgmode % 8) 3) (bitOf bgmode 3)
-
--- a mode has a row for each of the four backgrounds
-pub four-rows : (bgmode : ℕ) → length (modeRows bgmode) ≡ 4
-unfolding modeRows
-four-rows bgmode =
-    in-table (λ rows. length rows ≡ 4) (refl, (refl, (refl, (refl, tt)))) (eqb (bgmode % 8) 0) (eqb (bgmode % 8) 3) (bitOf bgmode 3)

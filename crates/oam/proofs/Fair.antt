@@ -10,7 +10,8 @@ use lib.Ieee.Fits.{and-l, and-r}
 use lib.ListN.{length, getD}
 use Rattle.oam.specs.declared.SpriteSize.{SpriteSize}
 use Rattle.oam.specs.declared.inner.Sizes.{Sizes}
-use Rattle.oam.specs.Sprites.{settings, noSizes, sizesOf, sizeOf, Sized}
+use Rattle.oam.specs.Sprites.{settings, noSizes, sizesOf, sizeOf}
+use Rattle.oam.specs.steps.Sprites.{Sized}
 
 abbrev between : ℕ → Bool
 between n = leb 8 n && leb n 64

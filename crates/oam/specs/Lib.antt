@@ -1,3 +1,4 @@
 pub mod Sprites
 pub mod Answers
-pub mod Columns
+pub mod theorems
+pub mod steps

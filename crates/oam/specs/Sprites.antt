@@ -1,6 +1,5 @@
 -- What the 544 bytes of sprite memory say of each of the 128 sprites.
-use Prim.Native.Nat.{ℕ, _+_, _-_, _*_, _/_, _%_, _^_, _≤_}
-use mathlib.Core.Path.{_≡_}
+use Prim.Native.Nat.{ℕ, _+_, _*_, _/_, _%_, _^_}
 use mathlib.Core.Bool.{Bool, false, cond}
 use mathlib.Core.List.{List, [], _∷_}
 use lib.ListN.{getD, length}
@@ -105,11 +104,3 @@ sizesOf setting = getD settings setting noSizes
 -- a sprite's size, by bits 5 to 7 of objsel
 unfoldable pub sizeOf : ℕ → Bool → SpriteSize
 sizeOf objsel large = cond large (sizesOf (objsel / 32) .large) (sizesOf (objsel / 32) .small)
-
--- the width and the height are 8 to 64, and the width is whole tiles
-pub record Sized (s : SpriteSize) : Type 0 where
-  pub wide : 8 ≤ s .width
-  pub narrow : s .width ≤ 64
-  pub high : 8 ≤ s .height
-  pub low : s .height ≤ 64
-  pub whole : s .width % 8 ≡ 0

@@ -6,7 +6,8 @@ ghost use mathlib.Core.Path.{_≡_};
 ghost use Prim.Native.Nat.{_+_, _*_, _<_};
 ghost use lib.ListN.{length};
 ghost use Rattle.signed.specs.Remainder.{remainder};
-ghost use Rattle.oam.specs.Sprites.{spriteOf, signed9, chrBaseOf, sized, sizeOf, sizesOf, Sized};
+ghost use Rattle.oam.specs.Sprites.{spriteOf, signed9, chrBaseOf, sized, sizeOf, sizesOf};
+ghost use Rattle.oam.specs.steps.Sprites.{Sized};
 
 // Nine bits as a column: the low byte, and bit 8.
 fn signed_x(low: u8, high: u8) -> i16

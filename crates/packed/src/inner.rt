@@ -10,7 +10,7 @@ ghost use lib.ListN.{length};
 ghost use Rattle.lists.specs.Tab.{tab};
 ghost use Rattle.line.specs.Pixels.{backdropOf};
 ghost use Rattle.laying.specs.Laying.{shownAt};
-ghost use Rattle.packed.specs.Packed.{headOf, headEnd, packed, heldAfter, heldUnless, lineRule};
+ghost use Rattle.packed.specs.steps.Packed.{headOf, headEnd, packed, heldAfter, heldUnless, lineRule};
 
 // The backdrop's code.
 pub const BACKDROP: u32 = 5;

@@ -7,16 +7,16 @@ use native.Mathlib.Omega.{arith}
 use lib.ListN.{getD}
 use lib.Dec.{eqb}
 use Rattle.colour.specs.Colour.{directColour}
-use Rattle.colour.specs.Bit15.{direct-clear}
+use Rattle.colour.specs.theorems.Bit15.{direct-clear}
 use Rattle.line.specs.declared.Layer.{Layer}
 use Rattle.line.specs.declared.Layer.the-variants.{Backdrop, Bg1, Bg2, Bg3, Bg4, Obj}
 use Rattle.line.specs.Pixels.{backgroundOf}
-use Rattle.packed.specs.Packed.{codeOf, headOf, packed, packedIf}
+use Rattle.packed.specs.steps.Packed.{codeOf, headOf, packed, packedIf}
 use Rattle.bg_map.specs.declared.BgParams.{BgParams}
 use Rattle.tiles_row.specs.declared.TileRow.{TileRow}
-use Rattle.tiles_row.specs.Rows.{rowIndex}
-use Rattle.bg_tile.specs.Characters.{cellIn}
-use Rattle.packed_tile.specs.Shades.{shade, shadeDirect}
+use Rattle.tiles_row.specs.steps.Rows.{rowIndex}
+use Rattle.bg_tile.specs.steps.Characters.{cellIn}
+use Rattle.packed_tile.specs.steps.Shades.{shade, shadeDirect}
 
 -- a background's code is its number
 code-is : (l : Layer) → backgroundOf l < 4 → backgroundOf l ≡ codeOf l false

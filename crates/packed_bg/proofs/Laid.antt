@@ -8,8 +8,9 @@ use lib.ListN.{set, take, length-set}
 use lib.Seq.{take-set-le, take-take, take-at}
 use lib.Dec.{ltb}
 use borrow.Author.Tests.{ltb-true, ltb-false}
-use Rattle.lists.specs.Tab.{tab, tab-split, length-tab}
-use Rattle.lists.specs.Filling.{Front, front-more, front-at}
+use Rattle.lists.specs.Tab.{tab}
+use Rattle.lists.specs.theorems.Tab.{tab-split, length-tab}
+use Rattle.lists.specs.steps.Filling.{Front, front-more, front-at}
 
 module _ {A : Type 0} {n : ℕ} {f : ℕ → A} where
   -- what is written beyond the front does not change it

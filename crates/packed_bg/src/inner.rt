@@ -22,13 +22,14 @@ ghost use Prim.Native.Nat.{_+_, _-_, _%_, _<_, _≤_};
 ghost use lib.ListN.{length, getD, take};
 ghost use Rattle.lists.specs.Tab.{tab};
 ghost use Rattle.line.specs.Pixels.{backgroundOf};
-ghost use Rattle.packed.specs.Packed.{packedIf};
+ghost use Rattle.packed.specs.steps.Packed.{packedIf};
 ghost use Rattle.bg_map.specs.Source.{extentOf};
-ghost use Rattle.tiles_row.specs.Rows.{TileRowSound};
+ghost use Rattle.tiles_row.specs.steps.Rows.{TileRowSound};
 ghost use Rattle.bg_tile.specs.Tile.{bgColours, isEight};
-ghost use Rattle.bg_tile.specs.Characters.{cellIn};
-ghost use Rattle.bg_row.specs.Row.{BgRowSound, bgPixel};
-ghost use Rattle.bg_row.specs.Cells.{cellAt};
+ghost use Rattle.bg_tile.specs.steps.Characters.{cellIn};
+ghost use Rattle.bg_row.specs.Row.{bgPixel};
+ghost use Rattle.bg_row.specs.steps.Row.{BgRowSound};
+ghost use Rattle.bg_row.specs.steps.Cells.{cellAt};
 ghost use Rattle.modes.specs.Modes.{paramsOf};
 
 // A tile's colours, a part of colour memory in wide words.

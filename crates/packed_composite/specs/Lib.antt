@@ -1,2 +1,1 @@
-pub mod Blended
-pub mod Laws
+pub mod steps

@@ -11,7 +11,7 @@ ghost use lib.ListN.{length, getD};
 ghost use Rattle.lists.specs.Tab.{tab};
 ghost use Rattle.registers.specs.Bits.{bitOf};
 ghost use Rattle.blend.specs.Blend.{region};
-ghost use Rattle.packed_composite.specs.Blended.{blended, mixedAt};
+ghost use Rattle.packed_composite.specs.steps.Blended.{blended, mixedAt};
 
 // Is math enabled for a code?
 fn enabled(layers: u32, code: u32) -> bool

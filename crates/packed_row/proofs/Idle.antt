@@ -9,7 +9,7 @@ use Rattle.registers.specs.Bits.{bitOf}
 use Rattle.colour.specs.Colour.{mathOf}
 use Rattle.blend.specs.declared.ColorMath.{ColorMath}
 use Rattle.blend.specs.Blend.{region}
-use Rattle.packed_composite.specs.Blended.{blended}
+use Rattle.packed_composite.specs.steps.Blended.{blended}
 
 no-bit : (k : ℕ) → bitOf 0 k ≡ false
 no-bit k = ap (λ (n : ℕ). eqb (n % 2) 1) (zero-div (2 ^ k))

@@ -1,1 +1,1 @@
-pub mod Screens
+pub mod steps

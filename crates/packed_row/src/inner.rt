@@ -18,7 +18,7 @@ ghost use Prim.Native.Nat.{_<_};
 ghost use lib.ListN.{length};
 ghost use lib.Dec.{eqb};
 ghost use Rattle.lists.specs.Tab.{tab};
-ghost use Rattle.packed_row.specs.Screens.{FiveRows, bgBarred, objBarred, screenAt, packedSubAt, insideAt, colourOfRow};
+ghost use Rattle.packed_row.specs.steps.Screens.{FiveRows, bgBarred, objBarred, screenAt, packedSubAt, insideAt, colourOfRow};
 
 // The columns at which background bg is not shown on a screen that has these registers.
 fn bg_barred(r: PPURegisters, lit: u8, win: u8, bg: usize) -> [bool; 256]

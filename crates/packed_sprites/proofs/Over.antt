@@ -11,10 +11,10 @@ use Rattle.line.specs.declared.Layer.the-variants.{Obj}
 use Rattle.line.specs.declared.Priority.{Priority}
 use Rattle.line.specs.declared.LinePixel.{LinePixel}
 use Rattle.line.specs.declared.Candidate.{Candidate}
-use Rattle.packed.specs.Packed.{codeOf, headOf, packed, packedIf}
-use Rattle.packed.specs.Laws.{rank-of}
+use Rattle.packed.specs.steps.Packed.{codeOf, headOf, packed, packedIf}
+use Rattle.packed.specs.steps.Laws.{rank-of}
 use Rattle.sprite_tile.specs.Tile.{spritePixelOf}
-use Rattle.packed_tile.specs.Shades.{shade}
+use Rattle.packed_tile.specs.steps.Shades.{shade}
 
 -- a pixel of a tile
 pub sprite-shade : (colours : List ℕ) (palette : ℕ) (z : Priority) {code head i n : ℕ} → code ≡ codeOf Obj (leb 4 palette) →

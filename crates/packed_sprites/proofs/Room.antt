@@ -11,12 +11,12 @@ use lib.Dec.{eqb}
 use borrow.Author.Tests.{lt-ltb, le-ltb, eqb-true, eqb-false}
 use Rattle.line.specs.declared.Candidate.{Candidate}
 use Rattle.line.specs.Pixels.{none}
-use Rattle.packed.specs.Packed.{packedIf}
+use Rattle.packed.specs.steps.Packed.{packedIf}
 use Rattle.tiles.specs.declared.BitDepth.the-variants.{Four}
-use Rattle.tiles_row.specs.Rows.{rowIndex}
+use Rattle.tiles_row.specs.steps.Rows.{rowIndex}
 use Rattle.sprite_tile.specs.declared.PlacedRow.{PlacedRow}
 use Rattle.sprite_tile.specs.Tile.{spriteColours, spritePixelOf}
-use Rattle.sprite_fetch.specs.Walk.{blankRow, offsetIn, drawnTo, drawnAll}
+use Rattle.sprite_fetch.specs.steps.Walk.{blankRow, offsetIn, drawnTo, drawnAll}
 use Rattle.sprite_fetch.proofs.Draws.{after, other, drawn-append}
 use Rattle.packed_sprites.proofs.Over.{over-is}
 

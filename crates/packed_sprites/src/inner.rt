@@ -21,11 +21,11 @@ ghost use Rattle.registers.specs.Bits.{bitOf};
 ghost use Rattle.row_tests.specs.Tests.{RowTested};
 ghost use Rattle.line.specs.Pixels.{none};
 ghost use Rattle.line.specs.declared.Layer.the-variants.{Obj};
-ghost use Rattle.packed.specs.Packed.{codeOf, packedIf};
+ghost use Rattle.packed.specs.steps.Packed.{codeOf, packedIf};
 ghost use Rattle.sprite_tile.specs.Tile.{spriteColours, spritePixelOf};
 ghost use Rattle.tiles.specs.declared.BitDepth.the-variants.{Four};
-ghost use Rattle.tiles_row.specs.Rows.{TileRowSound, rowIndex};
-ghost use Rattle.sprite_fetch.specs.Walk.{AllSound, drawnAll};
+ghost use Rattle.tiles_row.specs.steps.Rows.{TileRowSound, rowIndex};
+ghost use Rattle.sprite_fetch.specs.steps.Walk.{AllSound, drawnAll};
 ghost use Rattle.sprites.specs.Sprites as sprites;
 
 // A palette's colours, a part of colour memory.

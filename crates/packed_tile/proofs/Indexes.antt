@@ -4,7 +4,7 @@ use mathlib.Core.Path.{_≡_}
 use mathlib.Core.List.{List}
 use native.Mathlib.Omega.{arith}
 use Rattle.tiles.specs.Tiles.{planeWord, twoBits, indexOf}
-use Rattle.packed_tile.specs.Shades.{fourOf, eightOf}
+use Rattle.packed_tile.specs.steps.Shades.{fourOf, eightOf}
 
 module _ (v : List ℕ) (base x y : ℕ) where
   pub two-is : twoBits (planeWord v base y 0) x ≡ indexOf v base x y 1

@@ -5,7 +5,8 @@ use mathlib.Core.Bool.{Bool, true, false}
 use mathlib.Core.List.{List}
 use native.Mathlib.Omega.{arith}
 use lib.ListN.{getD}
-use Rattle.lists.specs.Tab.{tab, getD-tab}
+use Rattle.lists.specs.Tab.{tab}
+use Rattle.lists.specs.theorems.Tab.{getD-tab}
 use Rattle.tiles.specs.Tiles.{mirrored}
 
 small : (k : ℕ) (flip : Bool) → k < 8 → mirrored k 8 flip < 8

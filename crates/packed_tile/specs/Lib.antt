@@ -1,1 +1,1 @@
-pub mod Shades
+pub mod steps

@@ -7,8 +7,8 @@ ghost use Prim.Native.Nat.{_<_};
 ghost use lib.ListN.{length};
 ghost use Rattle.lists.specs.Tab.{tab};
 ghost use Rattle.tiles.specs.Tiles.{twoBits, mirrored};
-ghost use Rattle.packed.specs.Packed.{headEnd};
-ghost use Rattle.packed_tile.specs.Shades.{fourOf, eightOf, shade, shadeDirect};
+ghost use Rattle.packed.specs.steps.Packed.{headEnd};
+ghost use Rattle.packed_tile.specs.steps.Shades.{fourOf, eightOf, shade, shadeDirect};
 
 fn widened(color: u16) -> u32
     ensures { λ r. ⌜ r ≡ color ⌝ }

@@ -1,3 +1,5 @@
 pub mod Pictures
 pub mod Parts
 pub mod Drawings
+pub mod theorems
+pub mod steps

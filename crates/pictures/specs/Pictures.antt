@@ -1,6 +1,5 @@
 -- Two pictures and the chosen one's row.
-use Prim.Native.Nat.{ℕ, _+_, _*_, _<_}
-use mathlib.Core.Path.{_≡_}
+use Prim.Native.Nat.{ℕ, _+_, _*_}
 use mathlib.Core.Bool.{cond, _&&_}
 use mathlib.Core.List.{List, []}
 use lib.ListN.{length, take, drop}
@@ -12,13 +11,6 @@ use Rattle.row_tests.specs.Tests.{partTests}
 -- a row above 223 is refused 1, a picture of another length 5, a choice above 1 7
 abbrev pub pictureTests : ℕ → ℕ → ℕ → ℕ → Answer Unit
 pictureTests first second choice y = partTests y (eqb first 172032 && eqb second 172032) (ltb choice 2)
-
--- what is known once they are passed
-pub record PicturesTested (first second choice y : ℕ) : Type 0 where
-  pub row : y < 224
-  pub whole : first ≡ 172032
-  pub whole-2 : second ≡ 172032
-  pub either : choice < 2
 
 -- what a lent slice is: its bytes, and the place in memory where they lie
 pub record Lent : Type 0 where

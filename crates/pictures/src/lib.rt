@@ -7,7 +7,8 @@ use row_tests::inner::part_tested;
 ghost use mathlib.Core.Path.{_≡_};
 ghost use lib.ListN.{length};
 ghost use Rattle.refusal.specs.Verdicts.{verdictMeans, Passed};
-ghost use Rattle.pictures.specs.Pictures.{PicturesTested, pictureTests, lent, pictureRow};
+ghost use Rattle.pictures.specs.Pictures.{pictureTests, lent, pictureRow};
+ghost use Rattle.pictures.specs.steps.Pictures.{PicturesTested};
 
 // The pictures to choose from.
 pub const PICTURES: usize = 2;

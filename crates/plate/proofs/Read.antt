@@ -3,7 +3,8 @@ use Prim.Native.Nat.{ℕ}
 use mathlib.Core.Path.{_≡_, sym, ap, _∙_}
 use mathlib.Core.List.{List}
 use Rattle.refusal.specs.Answer.{Answer}
-use Rattle.refusal.specs.Verdicts.{verdictMeans, passed}
+use Rattle.refusal.specs.Verdicts.{verdictMeans}
+use Rattle.refusal.specs.theorems.Verdicts.{passed}
 use Rattle.refusal.specs.declared.Verdict.{Verdict}
 use Rattle.refusal.specs.declared.Verdict.the-variants.{Fine}
 use Rattle.scene_input.specs.Input.{ReadAs}

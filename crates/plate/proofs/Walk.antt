@@ -13,8 +13,10 @@ use borrow.Author.Tests.{ltb-true, ltb-false}
 use Rattle.registers.specs.declared.PPURegisters.{PPURegisters}
 use Rattle.registers.specs.Replaced.{withCounter}
 use Rattle.registers.specs.Scene.{Scene, scene}
-use Rattle.renderer.specs.Renderer.{sceneRow, length-row}
-use Rattle.plate.specs.Frame.{counterAfter, counterAt, frameRow, plateHeader, rowsOf, plateOf, Part, Reached, Taken}
+use Rattle.renderer.specs.Renderer.{sceneRow}
+use Rattle.renderer.specs.theorems.Renderer.{length-row}
+use Rattle.plate.specs.Frame.{counterAfter, counterAt, frameRow, plateHeader, rowsOf, plateOf, Part, Reached}
+use Rattle.plate.specs.steps.Frame.{Taken}
 
 module _ (s : Scene) where
   pub length-frame-row : (y : ℕ) → length (frameRow s y) ≡ 768

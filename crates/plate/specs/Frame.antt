@@ -53,7 +53,3 @@ pub record Reached (s : Scene) (row : List ℕ) (at : ℕ) : Type 0 where
   pub within : rows ≤ 224
   pub come : at ≡ 15 + rows * 768
   pub holds : row ≡ frameRow s (min rows 223)
-
--- what was taken of a plate: nothing, or its header and a number of rows
-abbrev pub Taken : Scene → ℕ → Type 0
-Taken s n = (n ≡ 0) ⊎ ((row : List ℕ) × Reached s row n)

@@ -24,7 +24,7 @@ ghost use Rattle.registers.specs.Scene.{scene};
 ghost use Rattle.scene_bytes.specs.Bytes.{registersOf};
 ghost use Rattle.scene.specs.File.{sceneTests};
 ghost use Rattle.scene_input.specs.Input.{ReadAs, SceneRead};
-ghost use Rattle.plate.specs.Frame.{Taken};
+ghost use Rattle.plate.specs.steps.Frame.{Taken};
 
 // The bytes of a plate: its header and 224 rows of 768.
 const PLATE_BYTES: usize = 172047;

@@ -1,4 +1,5 @@
 pub mod Numbers
 pub mod Answer
 pub mod Verdicts
-pub mod Settled
+pub mod theorems
+pub mod steps

@@ -3,3 +3,4 @@ pub mod Answers
 pub mod Screen
 pub mod Replaced
 pub mod Scene
+pub mod theorems

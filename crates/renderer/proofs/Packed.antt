@@ -5,18 +5,20 @@ use mathlib.Core.Bool.{Bool, true, false, cond, not, _&&_, _||_}
 use mathlib.Core.List.{List}
 use native.Mathlib.Omega.{arith}
 use lib.ListN.{getD}
-use Rattle.lists.specs.Tab.{tab, getD-tab}
+use Rattle.lists.specs.Tab.{tab}
+use Rattle.lists.specs.theorems.Tab.{getD-tab}
 use Rattle.registers.specs.declared.PPURegisters.{PPURegisters}
 use Rattle.registers.specs.Bits.{bitOf}
 use Rattle.window.specs.Window.{masked}
 use Rattle.windows.specs.Windows.{bgWindow, spriteWindow, colourWindow}
 use Rattle.line.specs.declared.LinePixel.{LinePixel}
 use Rattle.line.specs.declared.Candidate.{Candidate}
-use Rattle.line.specs.Pixels.{noPixel, backdropOf, backdropLine, getD-backdrop}
-use Rattle.line.specs.Recoloured.{recolour, recolouredLines}
+use Rattle.line.specs.Pixels.{noPixel, backdropOf, backdropLine}
+use Rattle.line.specs.theorems.Pixels.{getD-backdrop}
+use Rattle.line.specs.steps.Recoloured.{recolour, recolouredLines}
 use Rattle.laying.specs.Laying.{shownAt, onScreen, layLine}
 use Rattle.laying.specs.Order.{layAll}
-use Rattle.laying.specs.Recoloured.{pixel-recoloured}
+use Rattle.laying.specs.steps.Recoloured.{pixel-recoloured}
 use Rattle.modes.specs.Modes.{bgModeOf, paramsOf}
 use Rattle.bg_row.specs.Row.{bgPixel}
 use Rattle.background.specs.Background as background
@@ -24,12 +26,13 @@ use Rattle.sprites.specs.Sprites as sprites
 use Rattle.blend.specs.Blend.{settingsOf, region, colourOf}
 use Rattle.composite.specs.Composite.{colourAt}
 use Rattle.composite.proofs.Idle.{asks, asked}
-use Rattle.packed.specs.Packed.{packed, packedIf, heldAfter}
-use Rattle.packed.specs.Laws.{barred-packed, laid-at}
-use Rattle.packed_composite.specs.Blended.{blended}
-use Rattle.packed_composite.specs.Laws.{low16, blended-is, any-sub}
-use Rattle.packed_row.specs.Screens.{bgBarred, objBarred, insideAt, screenAt, colourOfRow}
-use Rattle.layers.specs.Layers.{Scene, layerShown, layerPixel}
+use Rattle.packed.specs.steps.Packed.{packed, packedIf, heldAfter}
+use Rattle.packed.specs.steps.Laws.{barred-packed, laid-at}
+use Rattle.packed_composite.specs.steps.Blended.{blended}
+use Rattle.packed_composite.specs.steps.Laws.{low16, blended-is, any-sub}
+use Rattle.packed_row.specs.steps.Screens.{bgBarred, objBarred, insideAt, screenAt, colourOfRow}
+use Rattle.registers.specs.Scene.{Scene}
+use Rattle.layers.specs.Layers.{layerShown, layerPixel}
 use Rattle.renderer.specs.Renderer.{sceneLines}
 
 -- a row is drawn where a screen lights its layer, and shows where this screen does

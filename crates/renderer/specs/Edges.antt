@@ -1,14 +1,13 @@
--- The proved edges of the rules, one table: the rows marked P, both sides of each, in the order of the rules.
-use mathlib.Core.Path.{_≡_, refl}
+-- The edges of the rules that are proved, as one record: both sides of each.
+use mathlib.Core.Path.{_≡_}
 use mathlib.Core.Bool.{true, false}
 use Rattle.registers.specs.declared.PPURegisters.{PPURegisters}
 use Rattle.mosaic.specs.Mosaic.{mosaicSize}
-use Rattle.colour.specs.Colour.{directColour, channelOf, light, atBrightness}
+use Rattle.colour.specs.Colour.{directColour, channelOf, atBrightness}
 use Rattle.bg_map.specs.declared.BgParams.{BgParams}
 use Rattle.bg_map.specs.Source.{extentOf, sourceLine}
 use Rattle.bg_map.specs.Map.{entryOf}
-use Rattle.bg_map.specs.Edges.{entry-C403, line-254}
-use Rattle.sprites.specs.Edges.{SpriteEdges, sprite-edges}
+use Rattle.sprites.specs.Edges.{SpriteEdges}
 
 pub record Edges : Type 0 where
   -- the lines on sprites: x9 504 and 505, 256, 500; top 250; tall 16x32 flipped; objsel low bits 0x1B
@@ -25,17 +24,3 @@ pub record Edges : Type 0 where
       p .«scroll_y» ≡ 0 → extentOf (p .h64) (p .tile16) ≡ 256 → sourceLine r p 0 ≡ 254
   -- add 31 and 31, halved: 15
   pub add : channelOf 31 31 false true ≡ 15
-
--- They hold.
-pub edges : Edges
-unfolding directColour atBrightness light
-edges =
-    record {
-      sprites = sprite-edges;
-      bright-7 = refl;
-      bright-15 = refl;
-      direct = refl;
-      entry = entry-C403;
-      line = line-254;
-      add = refl;
-    }

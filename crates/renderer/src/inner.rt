@@ -9,11 +9,11 @@ use registers::PPURegisters;
 ghost use mathlib.Core.Path.{_≡_};
 ghost use lib.ListN.{length};
 ghost use Rattle.lists.specs.Tab.{tab};
-ghost use Rattle.line.specs.Recoloured.{recolouredLines};
+ghost use Rattle.line.specs.steps.Recoloured.{recolouredLines};
 ghost use Rattle.row_tests.specs.Tests.{RowTested};
 ghost use Rattle.composite.specs.Composite.{colourAt};
-ghost use Rattle.packed_composite.specs.Laws.{low16};
-ghost use Rattle.layers.specs.Layers.{scene};
+ghost use Rattle.packed_composite.specs.steps.Laws.{low16};
+ghost use Rattle.registers.specs.Scene.{scene};
 ghost use Rattle.renderer.specs.Renderer.{sceneLines, sceneRow};
 
 // The colours of row y before brightness: the rows of the five layers, and colour math.

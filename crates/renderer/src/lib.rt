@@ -8,7 +8,7 @@ use registers::PPURegisters;
 use row_tests::inner::draw_tested;
 ghost use mathlib.Core.Path.{_≡_};
 ghost use Rattle.refusal.specs.Verdicts.{verdictMeans};
-ghost use Rattle.layers.specs.Layers.{scene};
+ghost use Rattle.registers.specs.Scene.{scene};
 ghost use Rattle.renderer.specs.Renderer.{rowOutcome, pictureOutcome};
 
 // The bytes of a picture.

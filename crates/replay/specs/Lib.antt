@@ -4,3 +4,5 @@ pub mod Memory
 pub mod Placing
 pub mod Section
 pub mod Pixels
+pub mod theorems
+pub mod steps

@@ -1,9 +1,7 @@
 -- What the reader's answer means.
 use Prim.Native.Nat.{ℕ}
-use mathlib.Core.Path.{_≡_}
 use mathlib.Core.List.{List}
 use Rattle.refusal.specs.Answer.{Outcome}
-use Rattle.refusal.specs.Settled.{one-verdict}
 use Rattle.refusal.specs.Verdicts.{verdictMeans}
 use Rattle.registers.specs.Scene.{Scene, scene}
 use Rattle.scene.specs.declared.SceneAnswer.{SceneAnswer}
@@ -11,8 +9,3 @@ use Rattle.scene.specs.declared.SceneAnswer.{SceneAnswer}
 -- beside what the targets hold
 abbrev pub sceneMeans : SceneAnswer → List ℕ → List ℕ → List ℕ → Outcome Unit Scene
 sceneMeans a v g o = record { said = verdictMeans (a .verdict); left = scene (a .registers) v g o }
-
--- the meaning settles the answer
-pub one-scene : (a b : SceneAnswer) (v g o : List ℕ) → sceneMeans a v g o ≡ sceneMeans b v g o → a ≡ b
-one-scene a b v g o e =
-    λ i. record { verdict = one-verdict (a .verdict) (b .verdict) (λ j. e j .said) i; registers = e i .left .regs }

@@ -1,4 +1,4 @@
 pub mod File
 pub mod Answers
-pub mod Pieces
-pub mod Whole
+pub mod theorems
+pub mod steps

@@ -14,7 +14,7 @@ ghost use lib.ListN.{length};
 ghost use Rattle.refusal.specs.Verdicts.{verdictMeans, Passed};
 ghost use Rattle.scene_bytes.specs.Bytes.{wordsOf};
 ghost use Rattle.scene.specs.File.{countAt, bodyAt, sectionTests, endTests, valueTests, sceneTests};
-ghost use Rattle.scene.specs.Pieces.{countTests, bodyTests, valuesIn, fromSprites, fromColours, fromVram, fromEnd};
+ghost use Rattle.scene.specs.steps.Pieces.{countTests, bodyTests, valuesIn, fromSprites, fromColours, fromVram, fromEnd};
 
 // The bytes of the sections' bodies.
 pub const REGISTER_BYTES: usize = 48;

@@ -10,15 +10,17 @@ use lib.Dec.{eqb, leb, ltb}
 use borrow.Author.Tests.{leb-true, leb-false, le-leb, lt-leb, ltb-false, eqb-false, ne-eqb}
 use Rattle.refusal.specs.Answer.{Answer, value, refused, provided, _andThen_}
 use Rattle.refusal.specs.Numbers.{numberOf}
-use Rattle.refusal.specs.Verdicts.{verdictMeans, Passed, passed}
+use Rattle.refusal.specs.Verdicts.{verdictMeans, Passed}
+use Rattle.refusal.specs.theorems.Verdicts.{passed}
 use Rattle.refusal.specs.declared.Refusal.{Refusal}
 use Rattle.refusal.specs.declared.Verdict.{Verdict}
 use Rattle.refusal.specs.declared.Verdict.the-variants.{Fine, Refused}
 use Rattle.scene.specs.File.{countAt, sectionTests, endTests, valueTests, sceneTests}
 use Rattle.scene_bytes.specs.Bytes.{registersOf, wordsOf}
-use Rattle.scene.specs.Pieces.{countTests, bodyTests, valuesIn}
-use Rattle.scene.specs.Whole.{no-pass, held, after}
-use Rattle.scene_input.specs.Input.{Follows, ReadAs, SceneRead, SectionRead, firstSection, sectionThen, heldThen, endOn, registersOn, HeldRegisters}
+use Rattle.scene.specs.steps.Pieces.{countTests, bodyTests, valuesIn}
+use Rattle.scene.specs.theorems.Whole.{no-pass, held, after}
+use Rattle.scene_input.specs.Input.{Follows, ReadAs, SceneRead}
+use Rattle.scene_input.specs.steps.Input.{SectionRead, firstSection, sectionThen, heldThen, endOn, registersOn, HeldRegisters}
 
 -- the same on both sides of a comparison
 shifted : (k n m : ℕ) → leb (k + n) (k + m) ≡ leb n m

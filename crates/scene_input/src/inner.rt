@@ -16,7 +16,8 @@ ghost use mathlib.Core.Path.{_≡_};
 ghost use Prim.Native.Nat.{_*_, _≤_};
 ghost use lib.ListN.{length};
 ghost use Rattle.scene_bytes.specs.Bytes.{wordsOf};
-ghost use Rattle.scene_input.specs.Input.{ReadAs, SceneRead, SectionRead, endOn, vramOn, coloursOn, spritesOn, registersOn, HeldVram, HeldColours, HeldSprites, HeldRegisters};
+ghost use Rattle.scene_input.specs.Input.{ReadAs, SceneRead};
+ghost use Rattle.scene_input.specs.steps.Input.{SectionRead, endOn, vramOn, coloursOn, spritesOn, registersOn, HeldVram, HeldColours, HeldSprites, HeldRegisters};
 
 // The bytes of a count.
 const COUNT_BYTES: usize = 4;

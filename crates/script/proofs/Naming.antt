@@ -10,7 +10,8 @@ use lib.Dec.{eqb, ltb, leb}
 use lib.ListN.{length, getD, drop, drop-of-length-le}
 use lib.Seq.{slice, slice-empty, slice-cons, drop-cons}
 use borrow.Author.Tests.{eq-eqb, ne-eqb, eqb-true, eqb-false, leb-true, ltb-true, ltb-false, lt-ltb}
-use Rattle.script.specs.Names.{onto, namesOf, same, firstOf, goesOn}
+use Rattle.script.specs.Names.{onto, namesOf, same, firstOf}
+use Rattle.script.specs.steps.Names.{goesOn}
 use Rattle.script.proofs.Tests.{first, second}
 
 -- The place of the word w, where the first name is read in part: its rest has to be v, if it can still be w at all.

@@ -10,7 +10,8 @@ use lib.Dec.{ltb, eqb}
 use lib.ListN.{length, getD, take, length-take, length-drop, drop-of-length-le, List·getD-eq-default}
 use lib.Seq.{slice, slice-empty, slice-cons, drop-drop, getD-drop, getD-take}
 use borrow.Author.Tests.{ltb-true, ltb-false, lt-ltb, le-ltb, le-leb}
-use Rattle.script.specs.Number.{digitOf, areDigits, behind, numberWhere, moreOf, digitsOf, isHex, wordNumber, numberBetween}
+use Rattle.script.specs.Number.{digitOf, areDigits, behind, numberWhere, digitsOf, isHex, wordNumber, numberBetween}
+use Rattle.script.specs.steps.Number.{moreOf}
 use Rattle.script.specs.declared.NumberAnswer.{NumberAnswer}
 use Rattle.script.specs.declared.NumberAnswer.the-variants.{Is, Not}
 

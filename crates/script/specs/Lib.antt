@@ -1,3 +1,4 @@
 pub mod Seek
 pub mod Number
 pub mod Names
+pub mod steps

@@ -2,8 +2,8 @@
 use Prim.Native.Nat.{ℕ, suc}
 use mathlib.Core.Bool.{Bool, true, false, cond, _&&_}
 use mathlib.Core.List.{List, [], _∷_}
-use lib.Dec.{ltb, leb, eqb}
-use lib.ListN.{length, getD}
+use lib.Dec.{leb, eqb}
+use lib.ListN.{length}
 use lib.Seq.{slice}
 
 -- a byte before the first name
@@ -31,7 +31,3 @@ firstOf good w (n ∷ ns) = cond (good && same w n) 0 (suc (firstOf good w ns))
 -- the place of the bytes of s from `from` to before `to`
 unfoldable pub placeBetween : List ℕ → List ℕ → ℕ → ℕ → ℕ
 placeBetween names s from to = firstOf (leb from to && leb to (length s)) (slice from to s) (namesOf names)
-
--- does the word that ends before `to` go on with b at `at`?
-abbrev pub goesOn : List ℕ → ℕ → ℕ → ℕ → Bool
-goesOn s at to b = ltb at to && ltb at (length s) && eqb (getD s at 0) b

@@ -29,10 +29,6 @@ behind base n (b ∷ l) = behind base (n * base + digitOf b) l
 abbrev pub numberWhere : Bool → ℕ → NumberAnswer
 numberWhere test n = cond (test && ltb n (2 ^ 64)) (Is n) Not
 
--- one digit d more behind a number n
-abbrev pub moreOf : ℕ → ℕ → ℕ → NumberAnswer
-moreOf n d base = numberWhere (ltb d base) (n * base + d)
-
 -- digits, at least one
 unfoldable pub digitsOf : ℕ → List ℕ → NumberAnswer
 digitsOf base [] = Not

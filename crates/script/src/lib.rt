@@ -6,8 +6,10 @@ ghost use Prim.Native.Nat.{_+_, _<_, _≤_};
 ghost use lib.ListN.{length};
 ghost use lib.Seq.{slice};
 ghost use Rattle.script.specs.Seek.{isBlank, stopsAt, seekOf};
-ghost use Rattle.script.specs.Number.{digitOf, moreOf, digitsOf, isHex, numberBetween};
-ghost use Rattle.script.specs.Names.{placeBetween, goesOn};
+ghost use Rattle.script.specs.Number.{digitOf, digitsOf, isHex, numberBetween};
+ghost use Rattle.script.specs.steps.Number.{moreOf};
+ghost use Rattle.script.specs.Names.{placeBetween};
+ghost use Rattle.script.specs.steps.Names.{goesOn};
 
 // What a search for a byte stops at.
 pub enum Stop {

@@ -9,14 +9,15 @@ use lib.ListN.{length, getD, set, take, replicate}
 use lib.Seq.{take-suc}
 use lib.Dec.{ltb, eqb}
 use borrow.Author.Tests.{lt-ltb, le-ltb, ltb-true, ltb-false, eq-eqb, ne-eqb, eqb-true, eqb-false}
-use Rattle.lists.specs.Tab.{tab, tab-ext, tab-set, tab-same}
+use Rattle.lists.specs.Tab.{tab}
+use Rattle.lists.specs.theorems.Tab.{tab-ext, tab-set, tab-same}
 use Rattle.line.specs.declared.Candidate.{Candidate}
 use Rattle.line.specs.Pixels.{none}
 use Rattle.tiles.specs.declared.BitDepth.the-variants.{Four}
-use Rattle.tiles_row.specs.Rows.{rowIndex}
+use Rattle.tiles_row.specs.steps.Rows.{rowIndex}
 use Rattle.sprite_tile.specs.declared.PlacedRow.{PlacedRow}
 use Rattle.sprite_tile.specs.Tile.{spriteColours, spritePixelOf}
-use Rattle.sprite_fetch.specs.Walk.{blankRow, offsetIn, drawnTo, drawnAll, drawnLine}
+use Rattle.sprite_fetch.specs.steps.Walk.{blankRow, offsetIn, drawnTo, drawnAll, drawnLine}
 
 -- below k + 1 and not k: below k
 below-other : (a k : ℕ) → (a ≡ k → ⊥) → ltb a k ≡ ltb a (k + 1)

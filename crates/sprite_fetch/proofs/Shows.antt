@@ -10,25 +10,29 @@ use lib.ListN.{length, take, length-map}
 use lib.Seq.{take-nil}
 use lib.Dec.{ltb, eqb, lit<}
 use borrow.Author.Tests.{lt-ltb, le-ltb, ltb-true, ltb-false, eqb-true, eqb-false}
-use Rattle.lists.specs.Tab.{tab, tab-ext}
-use Rattle.lists.specs.Places.{places, take-places}
-use Rattle.lists.specs.Each.{Each, each-tab, each-keep, each-take}
-use Rattle.signed.specs.Remainder.{remainder-small}
+use Rattle.lists.specs.Tab.{tab}
+use Rattle.lists.specs.theorems.Tab.{tab-ext}
+use Rattle.lists.specs.Places.{places}
+use Rattle.lists.specs.theorems.Places.{take-places}
+use Rattle.lists.specs.Each.{Each}
+use Rattle.lists.specs.theorems.Each.{each-tab, each-keep, each-take}
+use Rattle.signed.specs.theorems.Remainder.{remainder-small}
 use Rattle.tiles.specs.Tiles.{mirrored}
 use Rattle.oam.specs.declared.Sprite.{Sprite}
-use Rattle.oam.specs.Sprites.{Sized}
+use Rattle.oam.specs.steps.Sprites.{Sized}
 use Rattle.oam.proofs.Fair.{size-fair}
 use Rattle.sprite_row.specs.SpriteRow.{x9, sizeIn, tileAt, counts}
 use Rattle.line.specs.declared.Candidate.{Candidate}
 use Rattle.line.specs.Pixels.{none}
 use Rattle.sprite_tile.specs.declared.View.{View}
 use Rattle.sprite_tile.specs.Tile.{lineIn, spriteIndexAt, pixelIn}
-use Rattle.sprite_tile.specs.Placed.{placedOf}
+use Rattle.sprite_tile.specs.steps.Placed.{placedOf}
 use Rattle.sprite_tile.proofs.Laws.{placed-index}
 use Rattle.sprite_fetch.specs.declared.Fetched.{Fetched}
 use Rattle.sprite_fetch.specs.Fetch.{Tile, tile, countingPlaces, fetchOrder, fetched, fetchedOf, among, across, over, fetchedPixel, linePixel}
-use Rattle.sprite_fetch.specs.Turns.{leaves, own-places, in-turn}
-use Rattle.sprite_fetch.specs.Walk.{placedIn, blankRow, fetchedList, offsetIn, drawnTo, drawnAll, drawnLine}
+use Rattle.sprite_fetch.specs.steps.Turns.{leaves, own-places}
+use Rattle.sprite_fetch.specs.theorems.Turns.{in-turn}
+use Rattle.sprite_fetch.specs.steps.Walk.{placedIn, blankRow, fetchedList, offsetIn, drawnTo, drawnAll, drawnLine}
 use Rattle.sprite_fetch.proofs.Draws.{drawn-append}
 
 -- A column less the left edge of a sprite, and less that of a tile n further on: three cases, by which of the sums pass 512.

@@ -1,5 +1,4 @@
 pub mod Fetch
-pub mod Turns
-pub mod Walk
 pub mod Wins
-pub mod Recoloured
+pub mod theorems
+pub mod steps

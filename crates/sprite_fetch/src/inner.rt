@@ -20,7 +20,7 @@ ghost use mathlib.Core.Path.{_≡_};
 ghost use Prim.Native.Nat.{_≤_, _<_};
 ghost use lib.ListN.{length, take};
 ghost use Rattle.sprite_fetch.specs.Fetch.{fetched};
-ghost use Rattle.sprite_fetch.specs.Walk.{blankRow, AllSound, AllFair, fetchedList, spritesOf, drawnLine};
+ghost use Rattle.sprite_fetch.specs.steps.Walk.{blankRow, AllSound, AllFair, fetchedList, spritesOf, drawnLine};
 
 // What stands in a place that holds no tile.
 fn blank() -> PlacedRow

@@ -10,8 +10,8 @@ use Rattle.tiles.specs.declared.BitDepth.the-variants.{Four}
 use Rattle.tiles.specs.Tiles.{indexOf, mirrored}
 use Rattle.oam.specs.declared.Sprite.{Sprite}
 use Rattle.sprite_tile.specs.Tile.{doubled, flippedIn, tileWord, spriteIndexAt, spriteColours}
-use Rattle.tiles_row.specs.Rows.{rowIndex}
-use Rattle.sprite_tile.specs.Placed.{placedOf}
+use Rattle.tiles_row.specs.steps.Rows.{rowIndex}
+use Rattle.sprite_tile.specs.steps.Placed.{placedOf}
 
 -- the first line of a line's square
 pub square-start : (w n : ℕ) → n / w * w ≤ n

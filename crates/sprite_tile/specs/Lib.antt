@@ -1,3 +1,3 @@
 pub mod Tile
-pub mod Lines
-pub mod Placed
+pub mod theorems
+pub mod steps

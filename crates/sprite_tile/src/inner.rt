@@ -15,9 +15,9 @@ ghost use mathlib.Core.Path.{_≡_};
 ghost use mathlib.Core.Bool.{true};
 ghost use Prim.Native.Nat.{_*_, _/_, _<_, _≤_};
 ghost use lib.ListN.{length};
-ghost use Rattle.oam.specs.Sprites.{Sized};
+ghost use Rattle.oam.specs.steps.Sprites.{Sized};
 ghost use Rattle.sprite_tile.specs.Tile.{doubled, flippedIn, moved, lineIn, tileWord, spriteColours, spritePixelOf};
-ghost use Rattle.sprite_tile.specs.Placed.{PlacedSound, placedOf};
+ghost use Rattle.sprite_tile.specs.steps.Placed.{PlacedSound, placedOf};
 
 // Where a sprite's colours begin in colour memory, and how many each of its palettes has.
 pub const OBJ_COLORS: usize = 128;

@@ -5,14 +5,15 @@ use mathlib.Core.Bool.{Bool, true, false, not, _&&_, false≢true}
 use mathlib.Core.List.{List, [], _∷_, map, map-map}
 use native.Mathlib.Omega.{arith}
 use lib.ListN.{length, getD, take, length-map, length-take}
-use Rattle.lists.specs.Places.{places, take-places, getD-places}
+use Rattle.lists.specs.Places.{places}
+use Rattle.lists.specs.theorems.Places.{take-places, getD-places}
 use Rattle.registers.specs.declared.PPURegisters.{PPURegisters}
 use Rattle.registers.specs.Screen.{spriteInterlace}
 use Rattle.oam.specs.Sprites.{spriteOf}
 use Rattle.choice.specs.declared.VisibleSprite.{VisibleSprite}
 use Rattle.choice.specs.declared.Chosen.{Chosen}
 use Rattle.choice.specs.Choice.{searchOrder, found, visible, blankPlace, choiceOf, chosenOf}
-use Rattle.sprite_fetch.specs.Walk.{AllFair, spritesOf}
+use Rattle.sprite_fetch.specs.steps.Walk.{AllFair, spritesOf}
 use Rattle.sprites.specs.Sprites.{chosenSprites}
 
 module _ (oam : List ℕ) (objsel : ℕ) where

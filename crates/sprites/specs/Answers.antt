@@ -1,16 +1,9 @@
 -- What the answer of this crate means: the refusal's number or none, and the sprite line beside it.
-use mathlib.Core.Path.{_≡_}
 use mathlib.Core.List.{List}
 use Rattle.refusal.specs.Answer.{Outcome}
-use Rattle.refusal.specs.Settled.{one-verdict}
 use Rattle.refusal.specs.Verdicts.{verdictMeans}
 use Rattle.line.specs.declared.Candidate.{Candidate}
 use Rattle.sprites.specs.declared.SpriteLineAnswer.{SpriteLineAnswer}
 
 abbrev pub spriteLineMeans : SpriteLineAnswer → Outcome Unit (List Candidate)
 spriteLineMeans a = record { said = verdictMeans (a .verdict); left = a .line }
-
--- the meaning settles the answer
-pub one-sprite-line : (a b : SpriteLineAnswer) → spriteLineMeans a ≡ spriteLineMeans b → a ≡ b
-one-sprite-line a b e =
-    λ i. record { verdict = one-verdict (a .verdict) (b .verdict) (λ j. e j .said) i; line = e i .left }

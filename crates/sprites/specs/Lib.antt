@@ -1,3 +1,4 @@
 pub mod Sprites
 pub mod Answers
 pub mod Edges
+pub mod theorems

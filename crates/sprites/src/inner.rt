@@ -19,7 +19,7 @@ ghost use Rattle.row_tests.specs.Tests.{RowTested};
 ghost use Rattle.laying.specs.Laying.{candidatesOf, layLines};
 ghost use Rattle.sprites.specs.Sprites.{viewOf, chosenSprites, spritePixel, spritesShown, emptyLine};
 ghost use Rattle.sprite_fetch.specs.Fetch.{fetched};
-ghost use Rattle.sprite_fetch.specs.Walk.{fetchedList, AllSound};
+ghost use Rattle.sprite_fetch.specs.steps.Walk.{fetchedList, AllSound};
 
 // A line with no pixel.
 pub fn empty() -> [Candidate; 256]

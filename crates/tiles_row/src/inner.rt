@@ -6,7 +6,7 @@ use tiles::inner::mirror;
 ghost use mathlib.Core.Path.{_≡_};
 ghost use Prim.Native.Nat.{_^_, _<_};
 ghost use Rattle.tiles.specs.Tiles.{pairsOf};
-ghost use Rattle.tiles_row.specs.Rows.{TileRowSound, rowIndex};
+ghost use Rattle.tiles_row.specs.steps.Rows.{TileRowSound, rowIndex};
 
 // The colour index of pixel k, from the left, at a depth.
 pub fn index(vram: &[u16], bpp: BitDepth, t: TileRow, k: usize) -> u8

@@ -1,4 +1,4 @@
-use Rattle.refusal.specs.Verdicts.{passed, by-verdict}
+use Rattle.refusal.specs.theorems.Verdicts.{passed, by-verdict}
 use Rattle.refusal.specs.Answer.{value}
 use borrow.Author.Tests.{ltb-true}
 use mathlib.Core.Path.{ap, _∙_}

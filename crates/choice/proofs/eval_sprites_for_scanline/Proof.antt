@@ -1,5 +1,5 @@
 use mathlib.Core.Path.{refl}
-use Rattle.refusal.specs.Verdicts.{passed, by-fine, by-refusal}
+use Rattle.refusal.specs.theorems.Verdicts.{passed, by-fine, by-refusal}
 use native.Mathlib.Omega.{arith}
 use borrow.Author.Needs.{needs}
 use Rattle.choice.proofs.eval_sprites_for_scanline.Statement.{statement}

@@ -3,7 +3,7 @@ use mathlib.Core.Path.{_∙_}
 use borrow.Author.Needs.{needs}
 use borrow.Author.Tests.{not-true}
 use lib.ListN.{getD}
-use Rattle.lists.specs.Filling.{Filled, filled-none, filled-read, filled-more, filled-kept, filled-all, long-field}
+use Rattle.lists.specs.steps.Filling.{Filled, filled-none, filled-read, filled-more, filled-kept, filled-all, long-field}
 use Rattle.line.specs.Pixels.{noPixel, deposited}
 use Rattle.laying.specs.Laying.{onMain, onSub, candidatesOf, candidateIn}
 use Rattle.laying.proofs.Screens.{clear-kept}

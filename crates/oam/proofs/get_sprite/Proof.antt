@@ -1,4 +1,4 @@
-use Rattle.refusal.specs.Verdicts.{passed, by-verdict}
+use Rattle.refusal.specs.theorems.Verdicts.{passed, by-verdict}
 use mathlib.Core.Path.{ap, _∙_}
 use Rattle.refusal.specs.Answer.{value}
 use borrow.Author.Needs.{needs}

@@ -4,8 +4,9 @@ use native.Mathlib.Omega.{arith}
 use lib.ListN.{length}
 use denote.Ref.{now}
 use borrow.Author.Tests.{eq-eqb, ne-eqb}
-use Rattle.refusal.specs.Verdicts.{passed}
-use Rattle.pictures.specs.Pictures.{PicturesTested, lent}
+use Rattle.refusal.specs.theorems.Verdicts.{passed}
+use Rattle.pictures.specs.Pictures.{lent}
+use Rattle.pictures.specs.steps.Pictures.{PicturesTested}
 use Rattle.pictures.proofs.Handed.{fine-row, no-row}
 use borrow.Author.Needs.{needs}
 use Rattle.pictures.proofs.picture_row.Statement.{statement}

@@ -7,7 +7,7 @@ use denote.Ref.{now}
 use borrow.Author.Tests.{eqb-true}
 use borrow.Rule.Slice.PartAt.{part-count}
 use borrow.Rule.Slice.PartMut.{post-is}
-use Rattle.refusal.specs.Verdicts.{passed, by-fine, by-refusal}
+use Rattle.refusal.specs.theorems.Verdicts.{passed, by-fine, by-refusal}
 use Rattle.row_tests.specs.Tests.{RowTested}
 use Rattle.renderer.specs.Renderer.{withRow}
 use borrow.Author.Needs.{needs}

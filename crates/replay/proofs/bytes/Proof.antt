@@ -3,7 +3,8 @@ use mathlib.Core.Path.{_≡_, refl, sym, ap, _∙_}
 use native.Mathlib.Omega.{arith}
 use lib.ListN.{length, drop}
 use borrow.Author.Needs.{needs}
-use Rattle.replay.specs.Replay.{digestOf, digest-more, digest-all}
+use Rattle.replay.specs.Replay.{digestOf}
+use Rattle.replay.specs.theorems.Replay.{digest-more, digest-all}
 use Rattle.replay.proofs.bytes.Statement.{statement}
 use Rattle.replay.proofs.bytes.Tie as tie
 

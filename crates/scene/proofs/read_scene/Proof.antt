@@ -3,7 +3,7 @@ use mathlib.Core.Path.{_≡_, refl, ap, _∙_}
 use native.Mathlib.Omega.{arith}
 use lib.ListN.{length}
 use denote.Ref.{now}
-use Rattle.refusal.specs.Verdicts.{passed, by-fine, by-refusal}
+use Rattle.refusal.specs.theorems.Verdicts.{passed, by-fine, by-refusal}
 use Rattle.registers.specs.Scene.{scene}
 use Rattle.registers.specs.Screen.{cleared}
 use Rattle.scene_bytes.specs.Bytes.{wordsOf}

@@ -3,7 +3,8 @@ use mathlib.Core.Path.{_≡_, sym, ap, _∙_}
 use native.Mathlib.Omega.{arith}
 use borrow.Author.Needs.{needs}
 use lib.Seq.{slice}
-use Rattle.script.specs.Number.{digitsOf, moreOf}
+use Rattle.script.specs.Number.{digitsOf}
+use Rattle.script.specs.steps.Number.{moreOf}
 use Rattle.script.proofs.Reading.{readOn, onward, no-digit, first-digit, next-digit, last-digit}
 use Rattle.script.proofs.digits.Statement.{statement}
 use Rattle.script.proofs.digits.Tie as tie

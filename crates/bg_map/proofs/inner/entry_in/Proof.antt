@@ -1,5 +1,5 @@
 use Rattle.bg_map.proofs.Places.{tile-small}
-use Rattle.bg_map.specs.Rows.{entryIn}
+use Rattle.bg_map.specs.steps.Rows.{entryIn}
 use Rattle.bg_map.specs.Map.{entryOf}
 use Rattle.bg_map.specs.declared.MapEntry.{MapEntry}
 use Rattle.tiles.specs.Tiles.{vramWord}

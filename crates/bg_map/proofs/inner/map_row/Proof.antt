@@ -1,5 +1,5 @@
 use Rattle.bg_map.proofs.Places.{tile-below, screens-below}
-use Rattle.bg_map.specs.Rows.{mapRow}
+use Rattle.bg_map.specs.steps.Rows.{mapRow}
 use mathlib.Core.Path.{sym, subst}
 use Prim.Native.Nat.{ℕ, _+_, _*_, _/_, _%_, _<_, _≤_}
 use native.Mathlib.Omega.{arith}

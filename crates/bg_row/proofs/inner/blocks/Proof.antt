@@ -1,7 +1,7 @@
 use mathlib.Core.Path.{_≡_, sym, ap, subst, _∙_}
 use native.Mathlib.Omega.{arith}
 use Rattle.bg_row.proofs.Spread.{block-start, first-start, next-start}
-use Rattle.lists.specs.Filling.{Front, front-none, front-more, front-at, front-all}
+use Rattle.lists.specs.steps.Filling.{Front, front-none, front-more, front-at, front-all}
 use Rattle.laying.specs.Laying.{candidateIn}
 use Prim.Native.Nat.{ℕ, _+_, _-_, _%_, _<_, _≤_}
 use borrow.Author.Needs.{needs}

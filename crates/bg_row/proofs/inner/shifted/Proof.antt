@@ -1,4 +1,4 @@
-use Rattle.lists.specs.Filling.{Front, front-none, front-more, front-all}
+use Rattle.lists.specs.steps.Filling.{Front, front-none, front-more, front-all}
 use Rattle.laying.specs.Laying.{candidateIn}
 use mathlib.Core.Path.{refl}
 use Prim.Native.Nat.{_+_, _-_}

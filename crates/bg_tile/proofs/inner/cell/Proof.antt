@@ -1,6 +1,6 @@
 use denote.Ref.{now}
 use Rattle.bg_tile.proofs.Laws.{colours-power}
-use Rattle.bg_tile.specs.Characters.{cellIn}
+use Rattle.bg_tile.specs.steps.Characters.{cellIn}
 use Rattle.bg_tile.specs.Tile.{colourIn, bgPixelOf}
 use mathlib.Core.Path.{_∙_}
 use borrow.Author.Needs.{needs}

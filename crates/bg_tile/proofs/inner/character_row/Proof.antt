@@ -1,8 +1,8 @@
-use Rattle.bg_map.specs.Rows.{entryIn, entry-in-row}
+use Rattle.bg_map.specs.steps.Rows.{entryIn, entry-in-row}
 use Rattle.bg_map.proofs.Places.{extent-small}
 use denote.Ref.{now}
 use Rattle.bg_tile.proofs.Laws.{words-small}
-use Rattle.bg_tile.specs.Characters.{characterRowAt}
+use Rattle.bg_tile.specs.steps.Characters.{characterRowAt}
 use Prim.Native.Nat.{_%_}
 use Rattle.bg_tile.specs.Tile.{fineOf, characterWord, priorityOf}
 use mathlib.Core.Path.{_∙_}

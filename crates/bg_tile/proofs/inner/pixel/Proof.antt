@@ -1,5 +1,5 @@
 use Rattle.bg_tile.proofs.Laws.{palette-length, cell-is-pixel}
-use Rattle.bg_tile.specs.Characters.{cellIn}
+use Rattle.bg_tile.specs.steps.Characters.{cellIn}
 use Rattle.bg_tile.specs.Tile.{bgColours, pixelAt}
 use denote.Ref.{now}
 use mathlib.Core.Path.{_≡_, ap, _∙_}

@@ -1,7 +1,7 @@
 use borrow.Author.Needs.{needs}
 use Prim.Native.Nat.{_-_}
 use mathlib.Core.Path.{refl}
-use Rattle.lists.specs.Filling.{Front, front-none, front-more, front-all}
+use Rattle.lists.specs.steps.Filling.{Front, front-none, front-more, front-all}
 use Rattle.composite.specs.Composite.{blackRow}
 use Rattle.composite.proofs.inner.black.Statement.{statement}
 use Rattle.composite.proofs.inner.black.Tie as tie

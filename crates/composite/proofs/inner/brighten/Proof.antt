@@ -3,7 +3,7 @@ use Prim.Native.Nat.{ℕ, _+_, _-_, _*_, _<_}
 use mathlib.Core.Path.{_≡_, _∙_}
 use native.Mathlib.Omega.{arith}
 use lib.ListN.{getD, length-set}
-use Rattle.lists.specs.Filling.{Front, front-none, front-more, front-at, front-all}
+use Rattle.lists.specs.steps.Filling.{Front, front-none, front-more, front-at, front-all}
 use Rattle.colour.specs.Colour.{atBrightness}
 use Rattle.composite.specs.Composite.{rowByteAt}
 use Rattle.composite.proofs.Bytes.{byte-is}

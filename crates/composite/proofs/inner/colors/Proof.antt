@@ -1,4 +1,4 @@
-use Rattle.lists.specs.Tab.{tab-ext}
+use Rattle.lists.specs.theorems.Tab.{tab-ext}
 use Rattle.composite.proofs.Idle.{no-layer, nowhere}
 use mathlib.Core.Path.{_∙_}
 use mathlib.Core.Bool.{false}

@@ -3,7 +3,7 @@ use Prim.Native.Nat.{_-_}
 use mathlib.Core.Path.{_∙_}
 use mathlib.Core.Bool.{false, cond}
 use lib.ListN.{getD}
-use Rattle.lists.specs.Filling.{Front, front-none, front-more, front-all}
+use Rattle.lists.specs.steps.Filling.{Front, front-none, front-more, front-all}
 use Rattle.line.specs.Pixels.{noPixel}
 use Rattle.blend.specs.Blend.{region}
 use Rattle.composite.proofs.inner.keep.Statement.{statement}

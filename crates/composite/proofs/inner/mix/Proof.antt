@@ -2,7 +2,7 @@ use borrow.Author.Needs.{needs}
 use Prim.Native.Nat.{_-_}
 use mathlib.Core.Bool.{false}
 use lib.ListN.{getD}
-use Rattle.lists.specs.Filling.{Front, front-none, front-more, front-all}
+use Rattle.lists.specs.steps.Filling.{Front, front-none, front-more, front-all}
 use Rattle.line.specs.Pixels.{noPixel}
 use Rattle.blend.specs.Blend.{colourOf}
 use Rattle.composite.proofs.inner.mix.Statement.{statement}

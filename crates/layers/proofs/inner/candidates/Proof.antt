@@ -3,8 +3,8 @@ use mathlib.Core.Path.{_∙_}
 use Rattle.laying.specs.Laying.{candidatesOf}
 use Rattle.bg_row.specs.Row.{bgPixel}
 use Rattle.background.specs.Background.{bgShownBy}
-use Rattle.layers.specs.Layers.{scene}
-use Rattle.layers.specs.Numbers.{shown-low, pixel-low, shown-four, pixel-four}
+use Rattle.registers.specs.Scene.{scene}
+use Rattle.layers.specs.theorems.Numbers.{shown-low, pixel-low, shown-four, pixel-four}
 use Rattle.layers.proofs.Numbers.{bg-tested, is-four}
 use borrow.Author.Needs.{needs}
 use Rattle.layers.proofs.inner.candidates.Statement.{statement}

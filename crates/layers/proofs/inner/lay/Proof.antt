@@ -1,8 +1,8 @@
 use denote.Ref.{now}
 use mathlib.Core.Path.{_∙_}
 use Rattle.laying.specs.Laying.{layLines}
-use Rattle.layers.specs.Layers.{scene}
-use Rattle.layers.specs.Numbers.{shown-low, pixel-low, shown-four, pixel-four}
+use Rattle.registers.specs.Scene.{scene}
+use Rattle.layers.specs.theorems.Numbers.{shown-low, pixel-low, shown-four, pixel-four}
 use Rattle.layers.proofs.Numbers.{is-four}
 use borrow.Author.Needs.{needs}
 use Rattle.layers.proofs.inner.lay.Statement.{statement}

@@ -1,6 +1,7 @@
 use borrow.Author.Needs.{needs}
-use Rattle.laying.specs.Laying.{marked, candidateIn}
-use Rattle.lists.specs.Filling.{Filled, filled-none, filled-read, filled-more, filled-all, long-field}
+use Rattle.laying.specs.Laying.{candidateIn}
+use Rattle.laying.specs.steps.Laying.{marked}
+use Rattle.lists.specs.steps.Filling.{Filled, filled-none, filled-read, filled-more, filled-all, long-field}
 use Rattle.line.specs.Pixels.{noPixel, deposited}
 use lib.ListN.{getD}
 use mathlib.Core.Bool.{false, _&&_, not}

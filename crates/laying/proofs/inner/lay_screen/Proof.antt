@@ -1,10 +1,10 @@
 use Prim.Native.Nat.{ℕ}
-use Rattle.laying.specs.Unlit.{unlit-line}
+use Rattle.laying.specs.theorems.Unlit.{unlit-line}
 use Rattle.laying.proofs.Screens.{laid-as-shown}
 use Rattle.laying.specs.Laying.{onScreen, candidateIn}
 use Rattle.line.specs.Pixels.{noPixel, deposited}
-use Rattle.lists.specs.Filling.{long-field}
-use Rattle.lists.specs.Tab.{tab-ext}
+use Rattle.lists.specs.steps.Filling.{long-field}
+use Rattle.lists.specs.theorems.Tab.{tab-ext}
 use lib.ListN.{getD}
 use mathlib.Core.Bool.{Bool, false, _&&_, not}
 use mathlib.Core.Path.{sym, ap, _∙_}

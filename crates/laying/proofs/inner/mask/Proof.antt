@@ -1,7 +1,7 @@
 use borrow.Author.Needs.{needs}
 use Rattle.laying.proofs.Screens.{mask-off, mask-on}
-use Rattle.lists.specs.Filling.{Front, front-none, front-more, front-all}
-use Rattle.lists.specs.Tab.{by-getD}
+use Rattle.lists.specs.steps.Filling.{Front, front-none, front-more, front-all}
+use Rattle.lists.specs.theorems.Tab.{by-getD}
 use Rattle.window.specs.Window.{masked}
 use lib.ListN.{getD-replicate}
 use mathlib.Core.Bool.{false, _&&_}

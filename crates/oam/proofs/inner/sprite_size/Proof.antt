@@ -1,5 +1,6 @@
 use Rattle.oam.proofs.Fair.{size-fair}
-use Rattle.oam.specs.Sprites.{sizeOf, Sized}
+use Rattle.oam.specs.Sprites.{sizeOf}
+use Rattle.oam.specs.steps.Sprites.{Sized}
 use Rattle.oam.specs.declared.SpriteSize.{SpriteSize}
 use native.Mathlib.Omega.{arith}
 use mathlib.Core.Bool.{Bool}

@@ -1,6 +1,6 @@
 use borrow.Author.Needs.{needs}
 use native.Mathlib.Omega.{arith}
-use Rattle.packed.specs.Packed.{packed}
+use Rattle.packed.specs.steps.Packed.{packed}
 use Rattle.packed.proofs.inner.backdrop.Statement.{statement}
 use Rattle.packed.proofs.inner.backdrop.Tie as tie
 

@@ -2,7 +2,7 @@ use borrow.Author.Needs.{needs}
 use mathlib.Core.Path.{_∙_}
 use mathlib.Core.Bool.{true, not, _&&_}
 use lib.ListN.{getD-replicate}
-use Rattle.lists.specs.Tab.{tab-ext, by-getD}
+use Rattle.lists.specs.theorems.Tab.{tab-ext, by-getD}
 use Rattle.window.specs.Window.{masked}
 use Rattle.packed.proofs.Barred.{where-lit, where-unlit}
 use Rattle.packed.proofs.inner.barred.Statement.{statement}

@@ -1,6 +1,6 @@
 use borrow.Author.Needs.{needs}
 use mathlib.Core.Path.{_∙_}
-use Rattle.packed.specs.Packed.{heldUnless}
+use Rattle.packed.specs.steps.Packed.{heldUnless}
 use Rattle.packed.proofs.inner.lay_five.Statement.{statement}
 use Rattle.packed.proofs.inner.lay_five.Tie as tie
 

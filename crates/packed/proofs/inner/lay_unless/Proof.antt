@@ -1,6 +1,6 @@
 use borrow.Author.Needs.{needs}
 use mathlib.Core.Path.{_∙_}
-use Rattle.packed.specs.Packed.{heldAfter}
+use Rattle.packed.specs.steps.Packed.{heldAfter}
 use Rattle.packed.proofs.inner.lay_unless.Statement.{statement}
 use Rattle.packed.proofs.inner.lay_unless.Tie as tie
 

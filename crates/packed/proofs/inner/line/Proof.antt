@@ -1,7 +1,7 @@
 use borrow.Author.Needs.{needs}
 use Prim.Native.Nat.{_-_}
-use Rattle.lists.specs.Filling.{Front, front-none, front-more, front-all}
-use Rattle.packed.specs.Packed.{lineRule}
+use Rattle.lists.specs.steps.Filling.{Front, front-none, front-more, front-all}
+use Rattle.packed.specs.steps.Packed.{lineRule}
 use Rattle.packed.proofs.inner.line.Statement.{statement}
 use Rattle.packed.proofs.inner.line.Tie as tie
 

@@ -4,11 +4,12 @@ use Prim.Native.Nat.{ℕ, _<_}
 use mathlib.Core.Path.{_≡_, sym, subst, _∙_}
 use mathlib.Core.Bool.{Bool, cond, _||_}
 use lib.ListN.{length}
-use Rattle.lists.specs.Tab.{tab, length-tab}
-use Rattle.packed.specs.Packed.{packedIf}
+use Rattle.lists.specs.Tab.{tab}
+use Rattle.lists.specs.theorems.Tab.{length-tab}
+use Rattle.packed.specs.steps.Packed.{packedIf}
 use Rattle.bg_row.specs.Row.{bgPixel}
 use Rattle.modes.specs.Modes.{paramsOf}
-use Rattle.modes.specs.Own.{own-number}
+use Rattle.modes.specs.theorems.Own.{own-number}
 use Rattle.line.specs.Pixels.{backgroundOf}
 use Rattle.bg_map.specs.declared.BgParams.{BgParams}
 use Rattle.packed_bg.proofs.inner.background_row.Statement.{statement}

@@ -5,7 +5,7 @@ use mathlib.Core.Path.{_≡_, sym, ap, _∙_}
 use native.Mathlib.Omega.{arith}
 use native.Mathlib.Nat.{add-mod-right}
 use lib.ListN.{getD}
-use Rattle.lists.specs.Filling.{Front, front-none, front-at}
+use Rattle.lists.specs.steps.Filling.{Front, front-none, front-at}
 use Rattle.bg_row.proofs.Spread.{block-start, first-start}
 use Rattle.packed_bg.proofs.Laid.{laid-more, front-part}
 use Rattle.packed_bg.proofs.inner.blocks.Statement.{statement}

@@ -6,14 +6,14 @@ use mathlib.Core.Bool.{_&&_}
 use native.Mathlib.Omega.{arith}
 use native.Mathlib.Nat.{mod-lt, add-zero}
 use lib.ListN.{getD}
-use Rattle.lists.specs.Tab.{getD-tab}
-use Rattle.lists.specs.Filling.{Front, front-none, front-more, front-at, front-all}
+use Rattle.lists.specs.theorems.Tab.{getD-tab}
+use Rattle.lists.specs.steps.Filling.{Front, front-none, front-more, front-at, front-all}
 use Rattle.tiles_row.specs.declared.TileRow.{TileRow}
 use Rattle.bg_tile.specs.Tile.{bgColours, isEight}
-use Rattle.bg_tile.specs.Characters.{characterRowAt, cellIn}
-use Rattle.bg_row.specs.Cells.{cellAt}
+use Rattle.bg_tile.specs.steps.Characters.{characterRowAt, cellIn}
+use Rattle.bg_row.specs.steps.Cells.{cellAt}
 use Rattle.bg_row.proofs.Decode.{cell-of}
-use Rattle.packed.specs.Packed.{packedIf}
+use Rattle.packed.specs.steps.Packed.{packedIf}
 use Rattle.packed_bg.proofs.inner.cells.Statement.{statement}
 use Rattle.packed_bg.proofs.inner.cells.Tie as tie
 

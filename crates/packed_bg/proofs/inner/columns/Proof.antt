@@ -3,7 +3,7 @@ use denote.Ref.{now}
 use Prim.Native.Nat.{ℕ, _+_}
 use mathlib.Core.Path.{ap, _∙_}
 use lib.ListN.{getD}
-use Rattle.lists.specs.Tab.{tab-ext}
+use Rattle.lists.specs.theorems.Tab.{tab-ext}
 use Rattle.bg_row.proofs.Spread.{alone}
 use Rattle.packed_bg.proofs.inner.columns.Statement.{statement}
 use Rattle.packed_bg.proofs.inner.columns.Tie as tie

@@ -4,10 +4,10 @@ use Prim.Native.Nat.{ℕ, _+_, _-_, _%_}
 use mathlib.Core.Path.{_∙_}
 use native.Mathlib.Omega.{arith}
 use lib.ListN.{getD}
-use Rattle.lists.specs.Tab.{tab-ext, getD-tab}
+use Rattle.lists.specs.theorems.Tab.{tab-ext, getD-tab}
 use Rattle.mosaic.specs.Mosaic.{blockIf}
-use Rattle.packed.specs.Packed.{packedIf}
-use Rattle.bg_row.specs.Cells.{cellAt}
+use Rattle.packed.specs.steps.Packed.{packedIf}
+use Rattle.bg_row.specs.steps.Cells.{cellAt}
 use Rattle.bg_row.proofs.Decode.{cell-shown}
 use Rattle.bg_row.proofs.Spread.{within-cells}
 use Rattle.packed_bg.proofs.inner.drawn.Statement.{statement}

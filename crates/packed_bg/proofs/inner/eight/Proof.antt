@@ -3,11 +3,11 @@ use denote.Ref.{now}
 use mathlib.Core.Path.{_≡_, sym, ap, _∙_}
 use mathlib.Core.Bool.{_&&_}
 use lib.ListN.{length}
-use Rattle.lists.specs.Tab.{tab-ext}
+use Rattle.lists.specs.theorems.Tab.{tab-ext}
 use Rattle.tiles.specs.Tiles.{twoBits, indexOf, pairsOf, mirrored}
 use Rattle.bg_tile.specs.Tile.{colourCount, bgColours, isEight}
 use Rattle.bg_tile.proofs.Laws.{palette-length}
-use Rattle.packed_tile.specs.Shades.{fourOf, eightOf, shade, shadeDirect}
+use Rattle.packed_tile.specs.steps.Shades.{fourOf, eightOf, shade, shadeDirect}
 use Rattle.packed_tile.proofs.Indexes.{two-is, four-is, eight-is}
 use Rattle.packed_bg.proofs.Eight.{shade-is, direct-is}
 use Rattle.packed_bg.proofs.inner.eight.Statement.{statement}

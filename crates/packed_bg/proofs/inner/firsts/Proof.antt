@@ -5,8 +5,8 @@ use mathlib.Core.Path.{refl, sym, _∙_}
 use native.Mathlib.Omega.{arith}
 use lib.ListN.{getD, take}
 use lib.Seq.{length-take-le, getD-take}
-use Rattle.lists.specs.Tab.{by-getD}
-use Rattle.lists.specs.Filling.{Front, front-none, front-more, front-all}
+use Rattle.lists.specs.theorems.Tab.{by-getD}
+use Rattle.lists.specs.steps.Filling.{Front, front-none, front-more, front-all}
 use Rattle.packed_bg.proofs.inner.firsts.Statement.{statement}
 use Rattle.packed_bg.proofs.inner.firsts.Tie as tie
 

@@ -4,7 +4,7 @@ use mathlib.Core.Bool.{cond, not, _&&_}
 use Prim.Native.Nat.{_/_, _%_}
 use lib.Dec.{eqb}
 use Rattle.colour.specs.Colour.{mathOf}
-use Rattle.packed_composite.specs.Blended.{blended}
+use Rattle.packed_composite.specs.steps.Blended.{blended}
 use Rattle.packed_composite.proofs.inner.blend.Statement.{statement}
 use Rattle.packed_composite.proofs.inner.blend.Tie as tie
 

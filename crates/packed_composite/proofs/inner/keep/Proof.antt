@@ -4,7 +4,7 @@ use Prim.Native.Nat.{_-_, _%_}
 use mathlib.Core.Path.{_∙_}
 use mathlib.Core.Bool.{false, cond}
 use lib.ListN.{getD}
-use Rattle.lists.specs.Filling.{Front, front-none, front-more, front-all}
+use Rattle.lists.specs.steps.Filling.{Front, front-none, front-more, front-all}
 use Rattle.blend.specs.Blend.{region}
 use Rattle.packed_composite.proofs.Regions.{in-or-out}
 use Rattle.packed_composite.proofs.inner.keep.Statement.{statement}

@@ -4,8 +4,8 @@ use Prim.Native.Nat.{_-_}
 use mathlib.Core.Path.{_∙_}
 use mathlib.Core.Bool.{false}
 use lib.ListN.{getD}
-use Rattle.lists.specs.Filling.{Front, front-none, front-more, front-all}
-use Rattle.packed_composite.specs.Blended.{blended, mixedAt}
+use Rattle.lists.specs.steps.Filling.{Front, front-none, front-more, front-all}
+use Rattle.packed_composite.specs.steps.Blended.{blended, mixedAt}
 use Rattle.packed_composite.proofs.Regions.{in-or-out}
 use Rattle.packed_composite.proofs.inner.mix.Statement.{statement}
 use Rattle.packed_composite.proofs.inner.mix.Tie as tie

@@ -4,11 +4,11 @@ use Prim.Native.Nat.{ℕ, _<_}
 use mathlib.Core.Path.{_≡_, sym, _∙_}
 use mathlib.Core.Bool.{Bool, false}
 use lib.ListN.{getD}
-use Rattle.lists.specs.Tab.{tab-ext, getD-tab}
+use Rattle.lists.specs.theorems.Tab.{tab-ext, getD-tab}
 use Rattle.blend.specs.declared.ColorMath.{ColorMath}
 use Rattle.blend.specs.Blend.{settingsOf, region}
-use Rattle.packed_composite.specs.Blended.{blended, mixedAt}
-use Rattle.packed_row.specs.Screens.{insideAt, screenAt, packedSubAt, colourOfRow}
+use Rattle.packed_composite.specs.steps.Blended.{blended, mixedAt}
+use Rattle.packed_row.specs.steps.Screens.{insideAt, screenAt, packedSubAt, colourOfRow}
 use Rattle.packed_row.proofs.Idle.{idle-is}
 use Rattle.packed_row.proofs.inner.colors.Statement.{statement}
 use Rattle.packed_row.proofs.inner.colors.Tie as tie

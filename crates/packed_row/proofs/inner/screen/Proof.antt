@@ -3,9 +3,9 @@ use denote.Ref.{now}
 use mathlib.Core.Path.{_∙_}
 use mathlib.Core.Bool.{false}
 use lib.ListN.{getD}
-use Rattle.lists.specs.Tab.{tab-ext, getD-tab}
-use Rattle.packed.specs.Packed.{heldUnless, lineRule}
-use Rattle.packed_row.specs.Screens.{bgBarred, objBarred, screenAt}
+use Rattle.lists.specs.theorems.Tab.{tab-ext, getD-tab}
+use Rattle.packed.specs.steps.Packed.{heldUnless, lineRule}
+use Rattle.packed_row.specs.steps.Screens.{bgBarred, objBarred, screenAt}
 use Rattle.packed_row.proofs.inner.screen.Statement.{statement}
 use Rattle.packed_row.proofs.inner.screen.Tie as tie
 

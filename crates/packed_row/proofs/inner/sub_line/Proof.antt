@@ -3,10 +3,11 @@ use denote.Ref.{now}
 use Prim.Native.Nat.{ℕ}
 use mathlib.Core.Path.{refl, sym, _∙_}
 use mathlib.Core.Bool.{Bool, cond}
-use Rattle.lists.specs.Tab.{tab, tab-same}
+use Rattle.lists.specs.Tab.{tab}
+use Rattle.lists.specs.theorems.Tab.{tab-same}
 use Rattle.line.specs.Pixels.{backdropOf}
-use Rattle.packed.specs.Packed.{packed}
-use Rattle.packed_row.specs.Screens.{screenAt}
+use Rattle.packed.specs.steps.Packed.{packed}
+use Rattle.packed_row.specs.steps.Screens.{screenAt}
 use Rattle.packed_row.proofs.inner.sub_line.Statement.{statement}
 use Rattle.packed_row.proofs.inner.sub_line.Tie as tie
 

@@ -4,17 +4,17 @@ use mathlib.Core.Path.{_≡_, sym, subst, _∙_}
 use native.Mathlib.Omega.{arith}
 use denote.Ref.{now}
 use lib.ListN.{length, getD, set, take}
-use Rattle.lists.specs.Tab.{tab-ext, getD-tab}
-use Rattle.lists.specs.Filling.{long-field}
+use Rattle.lists.specs.theorems.Tab.{tab-ext, getD-tab}
+use Rattle.lists.specs.steps.Filling.{long-field}
 use Rattle.line.specs.declared.Candidate.{Candidate}
 use Rattle.line.specs.Pixels.{none}
-use Rattle.packed.specs.Packed.{packedIf}
+use Rattle.packed.specs.steps.Packed.{packedIf}
 use Rattle.sprite_tile.specs.declared.PlacedRow.{PlacedRow}
 use Rattle.sprite_tile.specs.Tile.{spriteColours, spritePixelOf}
 use Rattle.tiles.specs.declared.BitDepth.the-variants.{Four}
-use Rattle.tiles_row.specs.Rows.{rowIndex}
-use Rattle.sprite_tile.specs.Placed.{PlacedSound}
-use Rattle.sprite_fetch.specs.Walk.{blankRow, drawnAll}
+use Rattle.tiles_row.specs.steps.Rows.{rowIndex}
+use Rattle.sprite_tile.specs.steps.Placed.{PlacedSound}
+use Rattle.sprite_fetch.specs.steps.Walk.{blankRow, drawnAll}
 use Rattle.sprite_fetch.proofs.Draws.{after}
 use Rattle.packed_sprites.proofs.Room.{Shows, shows-none, shows-ext, after-first, after-outside, shows-more, none-drawn, tile-more}
 use Rattle.packed_sprites.proofs.inner.draw.Statement.{statement}

@@ -1,5 +1,5 @@
 use borrow.Author.Needs.{needs}
-use Rattle.packed_tile.specs.Shades.{shade}
+use Rattle.packed_tile.specs.steps.Shades.{shade}
 use Rattle.packed_tile.proofs.inner.shaded.Statement.{statement}
 use Rattle.packed_tile.proofs.inner.shaded.Tie as tie
 

@@ -3,7 +3,7 @@ use mathlib.Core.Bool.{cond, not}
 use mathlib.Core.Path.{_∙_}
 use Prim.Native.Nat.{_+_}
 use lib.Dec.{eqb}
-use Rattle.packed_tile.specs.Shades.{shadeDirect}
+use Rattle.packed_tile.specs.steps.Shades.{shadeDirect}
 use Rattle.packed_tile.proofs.inner.shaded_direct.Statement.{statement}
 use Rattle.packed_tile.proofs.inner.shaded_direct.Tie as tie
 

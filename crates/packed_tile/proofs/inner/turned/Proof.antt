@@ -1,6 +1,6 @@
 use borrow.Author.Needs.{needs}
 use Prim.Native.Nat.{_-_}
-use Rattle.lists.specs.Filling.{Front, front-none, front-more, front-all}
+use Rattle.lists.specs.steps.Filling.{Front, front-none, front-more, front-all}
 use Rattle.tiles.specs.Tiles.{mirrored}
 use Rattle.packed_tile.proofs.inner.turned.Statement.{statement}
 use Rattle.packed_tile.proofs.inner.turned.Tie as tie

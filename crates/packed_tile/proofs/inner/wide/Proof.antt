@@ -3,8 +3,8 @@ use denote.Ref.{now}
 use mathlib.Core.Path.{refl, sym, _∙_}
 use lib.ListN.{getD}
 use Prim.Native.Nat.{_-_}
-use Rattle.lists.specs.Filling.{Front, front-none, front-more, front-all}
-use Rattle.lists.specs.Tab.{by-getD}
+use Rattle.lists.specs.steps.Filling.{Front, front-none, front-more, front-all}
+use Rattle.lists.specs.theorems.Tab.{by-getD}
 use Rattle.packed_tile.proofs.inner.wide.Statement.{statement}
 use Rattle.packed_tile.proofs.inner.wide.Tie as tie
 

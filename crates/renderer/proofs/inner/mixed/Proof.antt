@@ -1,9 +1,10 @@
 use borrow.Author.Needs.{needs}
 use denote.Ref.{now}
 use mathlib.Core.Path.{refl, _∙_}
-use Rattle.lists.specs.Tab.{tab, tab-ext, tab-same}
-use Rattle.packed_row.specs.Screens.{colourOfRow}
-use Rattle.layers.specs.Layers.{scene}
+use Rattle.lists.specs.Tab.{tab}
+use Rattle.lists.specs.theorems.Tab.{tab-ext, tab-same}
+use Rattle.packed_row.specs.steps.Screens.{colourOfRow}
+use Rattle.registers.specs.Scene.{scene}
 use Rattle.renderer.proofs.Packed.{bgRow, spriteRow, colour-is}
 use Rattle.renderer.proofs.inner.mixed.Statement.{statement}
 use Rattle.renderer.proofs.inner.mixed.Tie as tie

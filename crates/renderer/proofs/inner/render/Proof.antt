@@ -4,15 +4,15 @@ use denote.Ref.{now}
 use mathlib.Core.Path.{_≡_, refl, sym, _∙_}
 use native.Mathlib.Omega.{arith}
 use lib.ListN.{getD}
-use Rattle.lists.specs.Tab.{getD-tab}
+use Rattle.lists.specs.theorems.Tab.{getD-tab}
 use Rattle.registers.specs.Replaced.{withColdata}
 use Rattle.colour.specs.Bit15.{SameColour}
-use Rattle.line.specs.Recoloured.{recolouredLines}
+use Rattle.line.specs.steps.Recoloured.{recolouredLines}
 use Rattle.composite.specs.Composite.{colourAt, rowBytes}
-use Rattle.composite.specs.Bit15.{row-blind}
+use Rattle.composite.specs.steps.Bit15.{row-blind}
 use Rattle.composite.proofs.Rows.{blank-row, lit-row}
-use Rattle.packed_composite.specs.Laws.{low16}
-use Rattle.layers.specs.Layers.{scene}
+use Rattle.packed_composite.specs.steps.Laws.{low16}
+use Rattle.registers.specs.Scene.{scene}
 use Rattle.renderer.specs.Renderer.{sceneLines, sceneRow}
 use Rattle.renderer.proofs.inner.render.Statement.{statement}
 use Rattle.renderer.proofs.inner.render.Tie as tie

@@ -2,7 +2,8 @@ use Prim.Native.Nat.{ℕ, _≤_, _-_}
 use mathlib.Core.Path.{_≡_, sym, ap, _∙_}
 use native.Mathlib.Omega.{arith}
 use borrow.Author.Needs.{needs}
-use Rattle.replay.specs.Drawing.{afterOf, after-none, after-next}
+use Rattle.replay.specs.Drawing.{afterOf}
+use Rattle.replay.specs.steps.Drawing.{after-none, after-next}
 use Rattle.replay.proofs.drawing.after.Statement.{statement}
 use Rattle.replay.proofs.drawing.after.Tie as tie
 

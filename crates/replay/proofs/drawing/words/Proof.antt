@@ -1,8 +1,9 @@
 use Prim.Native.Nat.{_+_, _/_, _-_}
 use mathlib.Core.Path.{_≡_, sym, _∙_}
 use borrow.Author.Needs.{needs}
-use Rattle.lists.specs.Filling.{Front, front-none, front-more, front-all}
-use Rattle.replay.specs.Drawing.{afterOf, drawnWord, drawnWords, after-none, after-next}
+use Rattle.lists.specs.steps.Filling.{Front, front-none, front-more, front-all}
+use Rattle.replay.specs.Drawing.{afterOf, drawnWord, drawnWords}
+use Rattle.replay.specs.steps.Drawing.{after-none, after-next}
 use Rattle.replay.proofs.drawing.words.Statement.{statement}
 use Rattle.replay.proofs.drawing.words.Tie as tie
 

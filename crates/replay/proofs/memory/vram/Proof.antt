@@ -1,8 +1,9 @@
 use Prim.Native.Nat.{_+_, _*_, _/_, _-_}
 use mathlib.Core.Path.{_≡_, sym, _∙_}
 use borrow.Author.Needs.{needs}
-use Rattle.lists.specs.Filling.{Front, front-none, front-more, front-all}
-use Rattle.replay.specs.Drawing.{afterOf, drawnWord, after-none, after-twice}
+use Rattle.lists.specs.steps.Filling.{Front, front-none, front-more, front-all}
+use Rattle.replay.specs.Drawing.{afterOf, drawnWord}
+use Rattle.replay.specs.steps.Drawing.{after-none, after-twice}
 use Rattle.replay.specs.Memory.{heldOf, vramOf}
 use Rattle.replay.proofs.memory.vram.Statement.{statement}
 use Rattle.replay.proofs.memory.vram.Tie as tie

@@ -1,7 +1,7 @@
 use Prim.Native.Nat.{_-_}
 use borrow.Author.Needs.{needs}
 use lib.ListN.{getD}
-use Rattle.lists.specs.Filling.{Front, front-none, front-more, front-all}
+use Rattle.lists.specs.steps.Filling.{Front, front-none, front-more, front-all}
 use Rattle.replay.specs.Section.{drawnByte, drawnSection}
 use Rattle.replay.proofs.section.section.Statement.{statement}
 use Rattle.replay.proofs.section.section.Tie as tie

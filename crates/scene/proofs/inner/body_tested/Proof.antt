@@ -1,4 +1,4 @@
-use Rattle.scene.specs.Pieces.{bodyTests}
+use Rattle.scene.specs.steps.Pieces.{bodyTests}
 use borrow.Author.Tests.{le-leb, lt-leb}
 use Rattle.scene.proofs.inner.body_tested.Statement.{statement}
 use Rattle.scene.proofs.inner.body_tested.Tie as tie

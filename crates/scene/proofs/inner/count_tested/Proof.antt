@@ -1,4 +1,4 @@
-use Rattle.scene.specs.Pieces.{countTests}
+use Rattle.scene.specs.steps.Pieces.{countTests}
 use borrow.Author.Tests.{le-leb, lt-leb, eq-eqb, ne-eqb}
 use mathlib.Core.Path.{sym, _∙_}
 use borrow.Author.Needs.{needs}

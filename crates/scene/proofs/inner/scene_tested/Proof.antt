@@ -1,5 +1,5 @@
 use Rattle.scene.specs.File.{sceneTests}
-use Rattle.refusal.specs.Verdicts.{by-verdict}
+use Rattle.refusal.specs.theorems.Verdicts.{by-verdict}
 use mathlib.Core.Path.{_∙_}
 use borrow.Author.Needs.{needs}
 use Rattle.scene.proofs.inner.scene_tested.Statement.{statement}

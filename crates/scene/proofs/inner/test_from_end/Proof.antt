@@ -1,5 +1,5 @@
 use denote.Ref.{now}
-use Rattle.refusal.specs.Verdicts.{by-verdict}
+use Rattle.refusal.specs.theorems.Verdicts.{by-verdict}
 use mathlib.Core.Path.{_∙_, sym, ap}
 use lib.ListN.{length-drop}
 use Rattle.scene.specs.File.{endTests}

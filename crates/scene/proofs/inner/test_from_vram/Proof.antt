@@ -1,4 +1,4 @@
-use Rattle.refusal.specs.Verdicts.{passed, by-verdict}
+use Rattle.refusal.specs.theorems.Verdicts.{passed, by-verdict}
 use mathlib.Core.Path.{_∙_}
 use borrow.Author.Needs.{needs}
 use Rattle.scene.proofs.inner.test_from_vram.Statement.{statement}

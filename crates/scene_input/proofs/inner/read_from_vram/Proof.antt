@@ -1,4 +1,4 @@
-use Rattle.scene_input.specs.Input.{endOn}
+use Rattle.scene_input.specs.steps.Input.{endOn}
 use Rattle.scene_input.proofs.Reading.{read-then, read-stopped}
 use borrow.Author.Needs.{needs}
 use Rattle.scene_input.proofs.inner.read_from_vram.Statement.{statement}

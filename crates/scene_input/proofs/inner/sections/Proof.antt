@@ -1,4 +1,4 @@
-use Rattle.scene_input.specs.Input.{spritesOn}
+use Rattle.scene_input.specs.steps.Input.{spritesOn}
 use Rattle.scene_input.proofs.Reading.{read-then, read-stopped}
 use borrow.Author.Needs.{needs}
 use Rattle.scene_input.proofs.inner.sections.Statement.{statement}

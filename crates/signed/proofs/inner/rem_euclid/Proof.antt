@@ -6,7 +6,8 @@ use borrow.Author.Needs.{needs}
 use lib.IntN.{ℤ, natAbs}
 use mir.Syntax.{w32}
 use mir.ValLaws.{toZ-ofZ}
-use Rattle.signed.specs.Remainder.{remainder, remainder-small}
+use Rattle.signed.specs.Remainder.{remainder}
+use Rattle.signed.specs.theorems.Remainder.{remainder-small}
 use Rattle.signed.proofs.Below.{below, below-small, abs-small, is-below, not-below, flipped, cast-pos}
 use Rattle.signed.proofs.inner.rem_euclid.Statement.{statement}
 use Rattle.signed.proofs.inner.rem_euclid.Tie as tie

@@ -5,16 +5,16 @@ use borrow.Author.Needs.{needs}
 use denote.Ref.{now}
 use lib.ListN.{length, getD, set, take}
 use Rattle.lists.specs.Tab.{tab}
-use Rattle.lists.specs.Filling.{long-field}
+use Rattle.lists.specs.steps.Filling.{long-field}
 use Rattle.line.specs.declared.Candidate.{Candidate}
 use Rattle.line.specs.Pixels.{none}
 use Rattle.sprite_tile.specs.Tile.{spritePixelOf}
 use Rattle.tiles.specs.declared.BitDepth.the-variants.{Four}
-use Rattle.tiles_row.specs.Rows.{rowIndex}
-use Rattle.sprite_tile.specs.Placed.{PlacedSound}
+use Rattle.tiles_row.specs.steps.Rows.{rowIndex}
+use Rattle.sprite_tile.specs.steps.Placed.{PlacedSound}
 use Rattle.sprite_tile.proofs.Laws.{colours-length}
 use Rattle.sprite_tile.specs.declared.PlacedRow.{PlacedRow}
-use Rattle.sprite_fetch.specs.Walk.{blankRow, drawnAll, drawnLine}
+use Rattle.sprite_fetch.specs.steps.Walk.{blankRow, drawnAll, drawnLine}
 use Rattle.sprite_fetch.proofs.Draws.{after, after-none, beyond, clear, drawn, drawn-none, drawn-more}
 use Rattle.sprite_fetch.proofs.inner.draw.Statement.{statement}
 use Rattle.sprite_fetch.proofs.inner.draw.Tie as tie

@@ -6,7 +6,7 @@ use native.Mathlib.Omega.{arith}
 use borrow.Author.Needs.{needs}
 use borrow.Author.Tests.{not-true, not-false}
 use lib.ListN.{length, getD, drop, drop-of-length-le}
-use Rattle.lists.specs.Filling.{long-field}
+use Rattle.lists.specs.steps.Filling.{long-field}
 use Rattle.signed.proofs.Signed.{remainder-of}
 use Rattle.oam.specs.declared.Sprite.{Sprite}
 use Rattle.oam.specs.declared.SpriteSize.{SpriteSize}
@@ -14,9 +14,9 @@ use Rattle.oam.specs.Sprites.{blankSprite}
 use Rattle.sprite_row.specs.SpriteRow.{x9, sizeIn, counts}
 use Rattle.choice.specs.Choice.{blankPlace}
 use Rattle.sprite_tile.specs.Tile.{lineIn}
-use Rattle.sprite_tile.specs.Placed.{placedOf}
+use Rattle.sprite_tile.specs.steps.Placed.{placedOf}
 use Rattle.sprite_fetch.specs.Fetch.{Tile, tile, fetchOrder}
-use Rattle.sprite_fetch.specs.Walk.{spritesOf}
+use Rattle.sprite_fetch.specs.steps.Walk.{spritesOf}
 use Rattle.sprite_fetch.proofs.Order.{SoFar, so-far-none, so-far-at, so-far-more, full, built, tilesTo, tiles-none, tiles-no, tiles-yes, order-none, order-more, sprites-long, sprite-at}
 use Rattle.sprite_fetch.proofs.inner.fetch.Statement.{statement}
 use Rattle.sprite_fetch.proofs.inner.fetch.Tie as tie

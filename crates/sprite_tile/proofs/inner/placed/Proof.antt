@@ -4,7 +4,7 @@ use mathlib.Core.Path.{_∙_}
 use Prim.Native.Nat.{_*_, _+_, _/_, _%_}
 use Rattle.signed.proofs.Signed.{remainder-of}
 use Rattle.sprite_tile.specs.Tile.{tileWord}
-use Rattle.sprite_tile.specs.Placed.{placedOf}
+use Rattle.sprite_tile.specs.steps.Placed.{placedOf}
 use borrow.Author.Needs.{needs}
 use Rattle.sprite_tile.proofs.inner.placed.Statement.{statement}
 use Rattle.sprite_tile.proofs.inner.placed.Tie as tie

@@ -1,7 +1,7 @@
 use denote.Ref.{now}
 use mathlib.Core.Path.{_∙_}
 use lib.ListN.{getD}
-use Rattle.lists.specs.Tab.{getD-tab}
+use Rattle.lists.specs.theorems.Tab.{getD-tab}
 use Rattle.line.specs.Pixels.{none}
 use Rattle.laying.specs.Laying.{candidatesOf}
 use Rattle.sprites.specs.Sprites.{spritePixel}

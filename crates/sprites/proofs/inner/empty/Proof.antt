@@ -1,4 +1,4 @@
-use Rattle.lists.specs.Tab.{tab-same}
+use Rattle.lists.specs.theorems.Tab.{tab-same}
 use Rattle.sprites.specs.Sprites.{emptyLine}
 use borrow.Author.Needs.{needs}
 use Rattle.sprites.proofs.inner.empty.Statement.{statement}

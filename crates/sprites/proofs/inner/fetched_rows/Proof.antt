@@ -2,7 +2,7 @@ use denote.Ref.{now}
 use mathlib.Core.Path.{_≡_, _∙_}
 use Rattle.choice.specs.Choice.{chosenOf}
 use Rattle.sprite_fetch.specs.Fetch.{fetched}
-use Rattle.sprite_fetch.specs.Walk.{fetchedList}
+use Rattle.sprite_fetch.specs.steps.Walk.{fetchedList}
 use Rattle.sprites.specs.Sprites.{viewOf}
 use Rattle.sprites.proofs.Listed.{chosen-few, chosen-fair, chosen-listed}
 use borrow.Author.Needs.{needs}

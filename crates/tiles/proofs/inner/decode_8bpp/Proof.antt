@@ -5,7 +5,7 @@ use native.Mathlib.Numerals.{add-one}
 use native.Mathlib.Nat.{mul-le-mul-left, pow-le-pow-right, pow-suc}
 use lib.Dec.{lit<}
 use Rattle.tiles.specs.Tiles.{indexOf}
-use Rattle.tiles.specs.PlanePairs.{index-more, index-small}
+use Rattle.tiles.specs.theorems.PlanePairs.{index-more, index-small}
 use Rattle.tiles.proofs.inner.decode_8bpp.Statement.{statement}
 use Rattle.tiles.proofs.inner.decode_8bpp.Tie as tie
 

@@ -1,0 +1,3 @@
+pub mod Row
+pub mod Cells
+pub mod Recoloured

@@ -1,0 +1,3 @@
+pub mod Unlit
+pub mod Order
+pub mod Answers

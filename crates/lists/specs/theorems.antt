@@ -1,0 +1,7 @@
+pub mod Tab
+pub mod Keep
+pub mod Runs
+pub mod Places
+pub mod Each
+pub mod Apart
+pub mod Changed

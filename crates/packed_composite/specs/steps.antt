@@ -1,0 +1,2 @@
+pub mod Blended
+pub mod Laws
