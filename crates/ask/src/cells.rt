@@ -1,10 +1,10 @@
 // The numbers of a script that have a name: the registers, a background's parameters, the lengths that
 // are lent, the port and the flags, and the arguments of a statement.
 use bg_map::BgParams;
-use line::Layer;
-use line::Priority;
+use line_pixels::Layer;
+use line_pixels::Priority;
 use registers::PPURegisters;
-use script::place;
+use test_script::place;
 use tiles::BitDepth;
 ghost use Prim.Native.Nat.{_<_};
 ghost use mathlib.Core.Path.{_≡_};

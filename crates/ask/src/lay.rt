@@ -2,13 +2,13 @@
 use crate::cells;
 use crate::say;
 use crate::statement::among;
-use laying::LinesAnswer;
-use line::Candidate;
-use line::LinePixel;
-use line::Lines;
-use line::Priority;
-use line::inner::pick;
-use replay::pixels::same;
+use line_laying::LinesAnswer;
+use line_pixels::Candidate;
+use line_pixels::LinePixel;
+use line_pixels::Lines;
+use line_pixels::Priority;
+use line_pixels::inner::pick;
+use test_replay::pixels::same;
 
 // The pixel that a statement describes.
 fn pixel_of(c: [u64; 112]) -> LinePixel {
@@ -63,7 +63,7 @@ fn changed(before: Lines, after: Lines) -> u64 {
     let mut n: u64 = 0;
     for x in 0..256usize {
         let kept = same(main[x], over[x]) & same(sub[x], under[x]);
-        n = n % 512 + digest::one(!kept);
+        n = n % 512 + test_digest::one(!kept);
     }
     n
 }
@@ -97,7 +97,7 @@ fn left(before: Lines, answer: LinesAnswer, c: [u64; 112]) -> Lines {
 // Writes the row that the lines make.
 fn composed(row: &mut [u8], lines: Lines, c: [u64; 112]) {
     let n = cells::lent(c[59], row);
-    let verdict = composite::composite_line(&mut row[..n], lines, cells::registers(c));
+    let verdict = row_composite::composite_line(&mut row[..n], lines, cells::registers(c));
     say::drawn(verdict, row, c[59], c, 0);
 }
 
@@ -115,7 +115,7 @@ fn deposited(lines: Lines, c: [u64; 112]) -> Lines {
     let opaque = c[cells::CLEAR] == 0;
     say::pixel(
         b" -> # # # math#",
-        line::deposit(main[x], Candidate { opaque, pixel }),
+        line_pixels::deposit(main[x], Candidate { opaque, pixel }),
     );
     lines
 }
@@ -132,10 +132,10 @@ fn drawn(
     let r = cells::registers(c);
     let y = c[cells::ROW] as usize;
     match verb {
-        19 => layers::backdrop_lines(cgram, r),
-        20 => background::render_bg_scanline(lines, vram, cgram, r, cells::params(c), y),
-        21 => sprites::render_sprites(lines, vram, cgram, oam, r, y),
-        _ => layers::render_layer(lines, vram, cgram, oam, r, y, n as usize),
+        19 => row_layers::backdrop_lines(cgram, r),
+        20 => bg_layer::render_bg_scanline(lines, vram, cgram, r, cells::params(c), y),
+        21 => sprite_layer::render_sprites(lines, vram, cgram, oam, r, y),
+        _ => row_layers::render_layer(lines, vram, cgram, oam, r, y, n as usize),
     }
 }
 

@@ -9,7 +9,7 @@ mod row;
 mod say;
 mod statement;
 
-use line::Lines;
+use line_pixels::Lines;
 use statement::Statement;
 ghost use Prim.Native.Nat.{_<_};
 
@@ -19,7 +19,7 @@ fn tail(s: &[u8], stop: usize) -> usize {
         return s.len();
     }
     if s[stop] == b'#' {
-        let end = script::seek(s, stop, script::Stop::Line);
+        let end = test_script::seek(s, stop, test_script::Stop::Line);
         if end < s.len() {
             return end + 1;
         }

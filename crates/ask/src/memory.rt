@@ -2,7 +2,7 @@
 use crate::cells;
 use crate::statement::Statement;
 use crate::statement::among;
-use digest::second_table_byte;
+use test_digest::second_table_byte;
 ghost use Prim.Native.Nat.{_≤_};
 
 // What an index has in a plane pair, at the tile's leftmost pixel.

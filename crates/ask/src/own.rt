@@ -2,17 +2,17 @@
 use crate::cells;
 use crate::say;
 use bg_map::BgParams;
-use bg_registers::ScrollAnswer;
-use bg_registers::SizeAnswer;
+use bg_modes::BgMode;
+use bg_modes::BgModeAnswer;
+use bg_modes::ParamsAnswer;
 use colour::RgbAnswer;
-use digest::one;
-use line::Layer;
-use line::LayerAnswer;
-use modes::BgMode;
-use modes::BgModeAnswer;
-use modes::ParamsAnswer;
-use mosaic::OffsetAnswer;
+use line_pixels::Layer;
+use line_pixels::LayerAnswer;
 use registers::PPURegisters;
+use registers_bg::ScrollAnswer;
+use registers_bg::SizeAnswer;
+use registers_mosaic::OffsetAnswer;
+use test_digest::one;
 use tiles::BitDepth;
 
 fn layer_bits(r: PPURegisters, n: usize) {
@@ -27,10 +27,10 @@ fn layer_bits(r: PPURegisters, n: usize) {
 
 fn windows_at(r: PPURegisters, x: usize) {
     let bits = [
-        say::truth(windows::in_window1(r, x)),
-        say::truth(windows::in_window2(r, x)),
-        say::truth(windows::obj_window_masked(r, x)),
-        say::truth(windows::in_color_window(r, x)),
+        say::truth(registers_windows::in_window1(r, x)),
+        say::truth(registers_windows::in_window2(r, x)),
+        say::truth(registers_windows::obj_window_masked(r, x)),
+        say::truth(registers_windows::in_color_window(r, x)),
     ];
     say::told(b" -> first #, second #, sprites #, colour #", &bits);
 }
@@ -63,11 +63,11 @@ fn offset(answer: OffsetAnswer) -> u64 {
 }
 
 fn places(r: PPURegisters, bg: usize) {
-    let size = size(bg_registers::bg_tilemap_size(r, bg));
-    let scroll = scroll(bg_registers::bg_scroll(r, bg));
+    let size = size(registers_bg::bg_tilemap_size(r, bg));
+    let scroll = scroll(registers_bg::bg_scroll(r, bg));
     let numbers = [
-        say::word(bg_registers::bg_tilemap_addr(r, bg)),
-        say::word(bg_registers::bg_tiledata_addr(r, bg)),
+        say::word(registers_bg::bg_tilemap_addr(r, bg)),
+        say::word(registers_bg::bg_tiledata_addr(r, bg)),
         size[0],
         size[1],
         scroll[0],
@@ -79,9 +79,9 @@ fn places(r: PPURegisters, bg: usize) {
 fn background(r: PPURegisters, bg: usize) {
     places(r, bg);
     let numbers = [
-        say::truth(bg_registers::bg_tile16(r, bg)),
-        say::truth(mosaic::bg_mosaic(r, bg)),
-        say::word(mosaic::bg_mosaic_block(r, bg)),
+        say::truth(registers_bg::bg_tile16(r, bg)),
+        say::truth(registers_mosaic::bg_mosaic(r, bg)),
+        say::word(registers_mosaic::bg_mosaic_block(r, bg)),
     ];
     say::told(b", side16 #, mosaic #, block #", &numbers);
 }
@@ -96,8 +96,8 @@ fn signed(n: u64) -> u64 {
 
 fn whole_mosaic(r: PPURegisters) {
     let numbers = [
-        mosaic::mosaic_size(r) as u64,
-        offset(mosaic::mosaic_voffset(r)),
+        registers_mosaic::mosaic_size(r) as u64,
+        offset(registers_mosaic::mosaic_voffset(r)),
     ];
     say::told(b" -> size #, offset #", &numbers);
 }
@@ -165,7 +165,7 @@ fn of_mode(m: BgMode) {
 }
 
 fn bg_mode(r: PPURegisters, bg: usize) {
-    match modes::bg_mode(r, bg) {
+    match bg_modes::bg_mode(r, bg) {
         BgModeAnswer::Is(m) => of_mode(m),
         BgModeAnswer::Refused(n) => say::single(say::refused(n)),
     }
@@ -206,7 +206,7 @@ fn lit(p: BgParams) {
 }
 
 fn bg_params(r: PPURegisters, bg: usize, whole: bool) {
-    match modes::bg_params(r, bg) {
+    match bg_modes::bg_params(r, bg) {
         ParamsAnswer::Is(p) => if whole {
             params(p);
         } else {
@@ -221,14 +221,14 @@ fn of_registers(r: PPURegisters, verb: usize, n: usize, x: usize, large: bool) {
     match verb {
         25 => layer_bits(r, n),
         26 => windows_at(r, x),
-        27 => say::single(say::truth(windows::bg_window_masked(r, n, x))),
+        27 => say::single(say::truth(registers_windows::bg_window_masked(r, n, x))),
         28 => background(r, n),
         29 => whole_mosaic(r),
         30 => sprite_size(r.objsel, large),
         31 => bg_mode(r, n),
         32 => bg_params(r, n, true),
         33 => bg_params(r, n, false),
-        _ => say::single(offset(mosaic::bg_mosaic_voffset(r, n))),
+        _ => say::single(offset(registers_mosaic::bg_mosaic_voffset(r, n))),
     }
 }
 

@@ -1,11 +1,11 @@
 // The data port of sprite memory, and the flags kept from row to row.
 use crate::cells;
 use crate::say;
-use digest::one;
+use base_refusal::Verdict;
 use oam_flags::OamFlags;
 use oam_port::ByteAnswer;
 use oam_port::OamPort;
-use refusal::Verdict;
+use test_digest::one;
 
 fn port_of(c: [u64; 112]) -> OamPort {
     OamPort {

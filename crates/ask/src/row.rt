@@ -1,13 +1,13 @@
 // What is drawn from memory, and what is read of it.
 use crate::cells;
 use crate::say;
-use choice::Chosen;
-use choice::VisibleSprite;
-use digest::one;
-use line::Candidate;
+use line_pixels::Candidate;
 use oam::Sprite;
 use oam::SpriteAnswer;
 use registers::PPURegisters;
+use sprite_choice::Chosen;
+use sprite_choice::VisibleSprite;
+use test_digest::one;
 use tiles::BitDepth;
 use tiles::IndexAnswer;
 
@@ -90,7 +90,13 @@ fn chosen(c: Chosen) {
 }
 
 fn choose(oam: &[u8], r: PPURegisters, y: usize) {
-    let answer = choice::eval_sprites_for_scanline(oam, y, r.objsel, r.oamadd, r.obj_interlace());
+    let answer = sprite_choice::eval_sprites_for_scanline(
+        oam,
+        y,
+        r.objsel,
+        r.oamadd,
+        r.obj_interlace(),
+    );
     let verdict = answer.verdict;
     let c = answer.chosen;
     say::verdict(verdict);
@@ -139,7 +145,7 @@ fn shown(line: [Candidate; 256], from: u8) {
 }
 
 fn sprite_line(vram: &[u16], cgram: &[u16], oam: &[u8], r: PPURegisters, y: usize, from: u8) {
-    let answer = sprites::sprite_line(vram, cgram, oam, r, y);
+    let answer = sprite_layer::sprite_line(vram, cgram, oam, r, y);
     let verdict = answer.verdict;
     let line = answer.line;
     say::verdict(verdict);
@@ -150,7 +156,7 @@ fn sprite_line(vram: &[u16], cgram: &[u16], oam: &[u8], r: PPURegisters, y: usiz
 fn row(lent: &mut [u8], vram: &[u16], cgram: &[u16], oam: &[u8], r: PPURegisters, c: [u64; 112]) {
     let n = cells::lent(c[59], lent);
     let y = c[cells::ROW] as usize;
-    let verdict = renderer::render_scanline(&mut lent[..n], vram, cgram, oam, r, y);
+    let verdict = row_renderer::render_scanline(&mut lent[..n], vram, cgram, oam, r, y);
     say::drawn(verdict, lent, c[59], c, 0);
 }
 
@@ -158,7 +164,7 @@ fn row(lent: &mut [u8], vram: &[u16], cgram: &[u16], oam: &[u8], r: PPURegisters
 fn part(lent: &mut [u8], vram: &[u16], cgram: &[u16], oam: &[u8], r: PPURegisters, c: [u64; 112]) {
     let n = cells::lent(c[60], lent);
     let y = c[cells::ROW] as usize;
-    let verdict = renderer::render_into_picture(&mut lent[..n], vram, cgram, oam, r, y);
+    let verdict = row_renderer::render_into_picture(&mut lent[..n], vram, cgram, oam, r, y);
     say::drawn(verdict, lent, c[60], c, c[cells::ROW]);
 }
 
@@ -206,8 +212,8 @@ fn count(part: &[u8], value: u8) -> u64 {
 }
 
 fn of_two<'a>(first: &'a [u8], second: &'a [u8], choice: usize, y: usize) {
-    say::verdict(pictures::check_picture_row(first, second, choice, y));
-    handed(pictures::picture_row(first, second, choice, y));
+    say::verdict(picture_rows::check_picture_row(first, second, choice, y));
+    handed(picture_rows::picture_row(first, second, choice, y));
 }
 
 fn of_lent<'a>(first: &'a [u8], second: &'a [u8], c: [u64; 112]) {
@@ -233,9 +239,9 @@ fn drawn(vram: &[u16], cgram: &[u16], oam: &[u8], verb: usize, n: u64, c: [u64; 
         42 => get_sprite(oam, cells::byte(n), r.objsel),
         43 => choose(oam, r, y),
         44 => sprite_line(vram, cgram, oam, r, y, cells::byte(c[cells::FROM])),
-        45 => say::candidates(sprites::sprite_candidates(vram, cgram, oam, r, x, y)),
-        46 => say::candidates(background::bg_candidates(vram, cgram, r, cells::params(c), x, y)),
-        47 => say::candidates(layers::layer_candidates(vram, cgram, oam, r, x, y, n as usize)),
+        45 => say::candidates(sprite_layer::sprite_candidates(vram, cgram, oam, r, x, y)),
+        46 => say::candidates(bg_layer::bg_candidates(vram, cgram, r, cells::params(c), x, y)),
+        47 => say::candidates(row_layers::layer_candidates(vram, cgram, oam, r, x, y, n as usize)),
         48 => scanline(vram, cgram, oam, r, c),
         49 => picture(vram, cgram, oam, r, c),
         _ => picture_row(c),

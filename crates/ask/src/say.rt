@@ -1,17 +1,17 @@
 // Writing an answer: a text in which each # stands for a number.
 use crate::cells;
-use digest::one;
-use laying::CandidatesAnswer;
-use line::Candidate;
-use line::Layer;
-use line::LinePixel;
-use line::Priority;
-use refusal::Refusal;
-use refusal::Verdict;
+use base_refusal::Refusal;
+use base_refusal::Verdict;
+use line_laying::CandidatesAnswer;
+use line_pixels::Candidate;
+use line_pixels::Layer;
+use line_pixels::LinePixel;
+use line_pixels::Priority;
 use registers::BoolAnswer;
 use registers::WordAnswer;
-use script::Stop;
-use script::seek;
+use test_digest::one;
+use test_script::Stop;
+use test_script::seek;
 
 // A number below this is written as it is. A greater one is a kind, times this, and a value.
 const KIND: u64 = 0x100000000;
@@ -154,7 +154,7 @@ pub(crate) fn layer(l: Layer) -> u64 {
 }
 
 pub(crate) fn priority(z: Priority) -> u64 {
-    let rank = line::inner::rank(z) as u64;
+    let rank = line_pixels::inner::rank(z) as u64;
     if rank > 0 { rank - 1 } else { 0 }
 }
 

@@ -7,8 +7,8 @@ use lib.Signed.{mag}
 use mir.Syntax.{w16, w32}
 use mir.Val.{SFits, toZ, ofZ, hbits}
 use mir.ValLaws.{toZ-ofZ, toZ-pos}
-use Rattle.signed.specs.Remainder.{remainder}
-use Rattle.signed.proofs.Signed.{widened, sum-small, opposite-small}
+use Rattle.base_signed.specs.Remainder.{remainder}
+use Rattle.base_signed.proofs.Signed.{widened, sum-small, opposite-small}
 
 module _ (a s : ℕ) (z : ℤ) (low : a < 256) (wide : s < 65536) (small : mag z < 2 ^ hbits w16) where
   -- the offset goes from 16 bits to 32

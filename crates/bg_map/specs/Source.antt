@@ -2,9 +2,9 @@
 use Prim.Native.Nat.{ℕ, _+_, _-_, _*_, _%_}
 use mathlib.Core.Bool.{Bool, true, false}
 use lib.IntN.{ℤ, pos, _+ℤ_, _-ℤ_}
-use Rattle.signed.specs.Remainder.{remainder}
+use Rattle.base_signed.specs.Remainder.{remainder}
 use Rattle.registers.specs.declared.PPURegisters.{PPURegisters}
-use Rattle.mosaic.specs.Mosaic.{blockIf, offsetIf}
+use Rattle.registers_mosaic.specs.Mosaic.{blockIf, offsetIf}
 use Rattle.bg_map.specs.declared.BgParams.{BgParams}
 
 -- tile side is 8 or 16

@@ -1,8 +1,8 @@
 // What the crates above ask of a background's map.
 use crate::BgParams;
 use crate::MapEntry;
+use base_signed::inner::rem_euclid;
 use registers::PPURegisters;
-use signed::inner::rem_euclid;
 ghost use mathlib.Core.Path.{_≡_};
 ghost use Prim.Native.Nat.{_/_, _<_, _≤_};
 ghost use Rattle.bg_map.specs.Source.{sideOf, extentOf, sourceColumn, sourceLine};
@@ -32,7 +32,7 @@ pub fn source_column(r: PPURegisters, p: BgParams, x: usize) -> usize
     requires { ⌜ x < 256 ⌝ }
     ensures { λ n. ⌜ (n ≡ sourceColumn r p x) × (n < extentOf (p .w64) (p .tile16)) ⌝ }
 {
-    let block = mosaic::inner::block(r, p.mosaic) as usize;
+    let block = registers_mosaic::inner::block(r, p.mosaic) as usize;
     let width = extent(p.w64, p.tile16);
     (x - x % block + p.scroll_x as usize) % width
 }
@@ -42,7 +42,7 @@ pub fn source_line(r: PPURegisters, p: BgParams, y: usize) -> usize
     requires { ⌜ y < 224 ⌝ }
     ensures { λ n. ⌜ (n ≡ sourceLine r p y) × (n < extentOf (p .h64) (p .tile16)) ⌝ }
 {
-    let offset = mosaic::inner::voffset(r, p.mosaic) as i32;
+    let offset = registers_mosaic::inner::voffset(r, p.mosaic) as i32;
     let line = (y + 1) as i32 - offset + p.scroll_y as i32;
     let height = extent(p.h64, p.tile16);
     rem_euclid(line, height as u32) as usize

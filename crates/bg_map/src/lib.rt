@@ -2,8 +2,8 @@
 // of the map. Follows renderer.rs, with its names.
 pub mod inner;
 
-use line::Layer;
-use line::Priority;
+use line_pixels::Layer;
+use line_pixels::Priority;
 use tiles::BitDepth;
 ghost use mathlib.Core.Path.{_≡_};
 ghost use Rattle.bg_map.specs.Map.{entryOf};

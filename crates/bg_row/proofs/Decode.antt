@@ -6,7 +6,7 @@ use mathlib.Core.List.{List}
 use native.Mathlib.Omega.{arith}
 use Rattle.registers.specs.declared.PPURegisters.{PPURegisters}
 use Rattle.registers.specs.Screen.{directColourSet}
-use Rattle.mosaic.specs.Mosaic.{blockIf}
+use Rattle.registers_mosaic.specs.Mosaic.{blockIf}
 use Rattle.bg_map.specs.declared.BgParams.{BgParams}
 use Rattle.bg_map.specs.Source.{extentOf, sourceColumn, sourceLine}
 use Rattle.bg_tile.specs.Tile.{bgColours, isEight, pixelAt}

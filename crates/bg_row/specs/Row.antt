@@ -3,7 +3,7 @@ use Prim.Native.Nat.{ℕ}
 use mathlib.Core.List.{List}
 use Rattle.registers.specs.declared.PPURegisters.{PPURegisters}
 use Rattle.registers.specs.Screen.{directColourSet}
-use Rattle.line.specs.declared.Candidate.{Candidate}
+use Rattle.line_pixels.specs.declared.Candidate.{Candidate}
 use Rattle.bg_map.specs.declared.BgParams.{BgParams}
 use Rattle.bg_map.specs.Source.{sourceColumn, sourceLine}
 use Rattle.bg_tile.specs.Tile.{pixelAt}

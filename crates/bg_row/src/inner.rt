@@ -8,14 +8,14 @@ use bg_tile::inner::cell;
 use bg_tile::inner::character_row;
 use bg_tile::inner::is_direct;
 use bg_tile::inner::palette;
-use line::Candidate;
+use line_pixels::Candidate;
 use registers::PPURegisters;
 ghost use mathlib.Core.Path.{_≡_};
 ghost use Prim.Native.Nat.{_+_, _-_, _%_, _<_, _≤_, min};
 ghost use lib.ListN.{length};
-ghost use Rattle.lists.specs.Tab.{tab};
-ghost use Rattle.line.specs.Pixels.{backgroundOf};
-ghost use Rattle.laying.specs.Laying.{candidateIn};
+ghost use Rattle.base_lists.specs.Tab.{tab};
+ghost use Rattle.line_pixels.specs.Pixels.{backgroundOf};
+ghost use Rattle.line_laying.specs.Laying.{candidateIn};
 ghost use Rattle.bg_map.specs.Source.{extentOf};
 ghost use Rattle.bg_row.specs.Row.{bgPixel};
 ghost use Rattle.bg_row.specs.steps.Row.{BgRowSound};
@@ -100,6 +100,6 @@ pub fn row(vram: &[u16], cgram: &[u16], r: PPURegisters, p: BgParams, y: usize) 
 {
     let py = source_line(r, p, y);
     let decoded = cells(vram, cgram, p, r.direct_color(), py);
-    let block = mosaic::inner::block(r, p.mosaic) as usize;
+    let block = registers_mosaic::inner::block(r, p.mosaic) as usize;
     columns(decoded, p.scroll_x as usize % 8, block)
 }

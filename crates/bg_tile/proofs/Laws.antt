@@ -11,7 +11,7 @@ use lib.ListN.{length, length-take, length-drop}
 use Rattle.tiles.specs.declared.BitDepth.{BitDepth}
 use Rattle.tiles.specs.declared.BitDepth.the-variants.{Two, Four, Eight}
 use Rattle.tiles.specs.Tiles.{vramWord, indexOf, pairsOf, tileWords, mirrored}
-use Rattle.line.specs.Pixels.{backgroundOf}
+use Rattle.line_pixels.specs.Pixels.{backgroundOf}
 use Rattle.bg_map.specs.declared.BgParams.{BgParams}
 use Rattle.bg_map.specs.declared.MapEntry.{MapEntry}
 use Rattle.bg_map.specs.Source.{sideOf}

@@ -8,9 +8,9 @@ use Rattle.colour.specs.Colour.{directColour}
 use Rattle.tiles.specs.declared.BitDepth.{BitDepth}
 use Rattle.tiles.specs.declared.BitDepth.the-variants.{Two, Four, Eight}
 use Rattle.tiles.specs.Tiles.{indexOf, pairsOf, tileWords, mirrored}
-use Rattle.line.specs.declared.Priority.{Priority}
-use Rattle.line.specs.declared.Candidate.{Candidate}
-use Rattle.line.specs.Pixels.{backgroundOf}
+use Rattle.line_pixels.specs.declared.Priority.{Priority}
+use Rattle.line_pixels.specs.declared.Candidate.{Candidate}
+use Rattle.line_pixels.specs.Pixels.{backgroundOf}
 use Rattle.bg_map.specs.declared.BgParams.{BgParams}
 use Rattle.bg_map.specs.declared.MapEntry.{MapEntry}
 use Rattle.bg_map.specs.Source.{sideOf}

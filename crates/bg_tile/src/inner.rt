@@ -1,9 +1,9 @@
 // What the crates above ask of a background's tiles.
 use bg_map::BgParams;
-use line::Candidate;
-use line::LinePixel;
-use line::Priority;
-use line::inner::bg_index;
+use line_pixels::Candidate;
+use line_pixels::LinePixel;
+use line_pixels::Priority;
+use line_pixels::inner::bg_index;
 use tiles::BitDepth;
 use tiles::inner::mirror;
 use tiles_row::TileRow;
@@ -11,7 +11,7 @@ ghost use mathlib.Core.Path.{_≡_};
 ghost use mathlib.Core.Bool.{_&&_};
 ghost use Prim.Native.Nat.{_+_, _<_, _≤_};
 ghost use lib.ListN.{length};
-ghost use Rattle.line.specs.Pixels.{backgroundOf};
+ghost use Rattle.line_pixels.specs.Pixels.{backgroundOf};
 ghost use Rattle.bg_map.specs.Source.{extentOf};
 ghost use Rattle.bg_map.specs.steps.Rows.{mapRow};
 ghost use Rattle.bg_tile.specs.Tile.{fineOf, characterWord, priorityOf, colourCount, startOf, bgColours, isEight, colourIn, pixelAt};

@@ -2,7 +2,7 @@
 use Prim.Native.Nat.{ℕ, _+_, _-_, _*_, _/_, _%_, min}
 use mathlib.Core.Bool.{Bool, true, false, cond}
 use lib.Dec.{eqb, ltb}
-use Rattle.refusal.specs.Answer.{Answer, provided}
+use Rattle.base_refusal.specs.Answer.{Answer, provided}
 use Rattle.colour.specs.declared.Rgb.{Rgb}
 
 -- the channels of a colour word; bit 15 is in none

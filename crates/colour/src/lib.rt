@@ -1,9 +1,9 @@
 // Colours: BGR555 words, red in the low five bits. Follows renderer.rs, with its names.
 pub mod inner;
 
-use refusal::Refusal;
+use base_refusal::Refusal;
 ghost use mathlib.Core.Path.{_≡_};
-ghost use Rattle.refusal.specs.Answer.{value};
+ghost use Rattle.base_refusal.specs.Answer.{value};
 ghost use Rattle.colour.specs.Colour.{directColour, mathOf, atBrightness, ofBrightness};
 ghost use Rattle.colour.specs.Answers.{rgbMeans};
 

@@ -2,8 +2,8 @@
 // the lowest first, and then the scene. It writes a digest of what it drew.
 mod rows;
 
-use refusal::Verdict;
-use say::refuse;
+use base_refusal::Verdict;
+use base_refusal_line::refuse;
 
 // How often; more than 65,535 counts as never.
 fn times(low: u8, high: u8, third: u8, fourth: u8) -> u16 {
@@ -31,7 +31,7 @@ fn main() {
     io::read_full(0, &mut count);
     let n = times(count[0], count[1], count[2], count[3]);
     let got = io::read_full(0, &mut file);
-    let read = scene::read_scene(&mut vram, &mut cgram, &mut oam, &file[..got]);
+    let read = scene_file::read_scene(&mut vram, &mut cgram, &mut oam, &file[..got]);
     let verdict = read.verdict;
     let r = read.registers;
     match verdict {

@@ -1,9 +1,9 @@
 // All rows of a scene into one lent row, and a digest of them.
-use digest::fold;
-use plate::inner::at_counter;
-use plate::inner::next_counter;
-use refusal::Verdict;
+use base_refusal::Verdict;
+use frame_library::inner::at_counter;
+use frame_library::inner::next_counter;
 use registers::PPURegisters;
+use test_digest::fold;
 
 // A refusal writes a word that no digest has.
 fn settle(verdict: Verdict) {
@@ -50,7 +50,7 @@ fn once(
     let mut counter = r.mosaic_vcounter;
     for y in 0..224usize {
         let now = at_counter(r, counter);
-        settle(renderer::render_scanline(row, vram, cgram, oam, now, y));
+        settle(row_renderer::render_scanline(row, vram, cgram, oam, now, y));
         d = with_one(row, d, at);
         counter = next_counter(r, counter);
     }
@@ -70,7 +70,7 @@ fn whole(
     let mut counter = r.mosaic_vcounter;
     for y in 0..224usize {
         let now = at_counter(r, counter);
-        settle(renderer::render_scanline(row, vram, cgram, oam, now, y));
+        settle(row_renderer::render_scanline(row, vram, cgram, oam, now, y));
         d = with_all(row, d);
         counter = next_counter(r, counter);
     }

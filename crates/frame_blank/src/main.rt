@@ -1,4 +1,4 @@
 // Draws the scene on standard input.
 fn main() {
-    plate::frame();
+    frame_library::frame();
 }

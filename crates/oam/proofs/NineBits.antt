@@ -8,7 +8,7 @@ use borrow.Author.Tests.{lt-ltb, le-ltb}
 use mir.Syntax.{w16}
 use mir.Val.{SFits, toZ, ofZ}
 use mir.ValLaws.{toZ-pos}
-use Rattle.signed.proofs.Signed.{difference-fits, difference-read}
+use Rattle.base_signed.proofs.Signed.{difference-fits, difference-read}
 use Rattle.oam.specs.Sprites.{signed9}
 
 pub low : (n : ℕ) → n < 256 → toZ w16 n ≡ signed9 n

@@ -1,6 +1,6 @@
 -- What the answer of this crate means, case by case: the sprite, or the refusal's number.
-use Rattle.refusal.specs.Numbers.{numberOf}
-use Rattle.refusal.specs.Answer.{Answer, value, refused}
+use Rattle.base_refusal.specs.Numbers.{numberOf}
+use Rattle.base_refusal.specs.Answer.{Answer, value, refused}
 use Rattle.oam.specs.declared.Sprite.{Sprite}
 use Rattle.oam.specs.declared.SpriteAnswer.{SpriteAnswer}
 use Rattle.oam.specs.declared.SpriteAnswer.the-variants.{Is, Refused}

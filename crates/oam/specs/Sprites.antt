@@ -5,7 +5,7 @@ use mathlib.Core.List.{List, [], _∷_}
 use lib.ListN.{getD, length}
 use lib.IntN.{ℤ, pos, _-ℤ_}
 use lib.Dec.{ltb, eqb}
-use Rattle.refusal.specs.Answer.{Answer, value, provided, _andThen_}
+use Rattle.base_refusal.specs.Answer.{Answer, value, provided, _andThen_}
 use Rattle.oam.specs.declared.Sprite.{Sprite}
 use Rattle.oam.specs.declared.SpriteSize.{SpriteSize}
 use Rattle.oam.specs.declared.inner.Sizes.{Sizes}

@@ -2,12 +2,12 @@
 // of a row stands in the crates sprite_row and sprite_choice, its data port in oam_port.
 pub mod inner;
 
-use refusal::Refusal;
-use refusal::Verdict;
+use base_refusal::Refusal;
+use base_refusal::Verdict;
 ghost use mathlib.Core.Path.{_≡_};
 ghost use Prim.Native.Nat.{_<_};
-ghost use Rattle.refusal.specs.Verdicts.{verdictMeans, Passed};
-ghost use Rattle.signed.specs.Remainder.{remainder};
+ghost use Rattle.base_refusal.specs.Verdicts.{verdictMeans, Passed};
+ghost use Rattle.base_signed.specs.Remainder.{remainder};
 ghost use Rattle.oam.specs.Answers.{spriteMeans};
 ghost use Rattle.oam.specs.Sprites.{blankSprite, spriteTests, spriteAnswer, sizeOf};
 

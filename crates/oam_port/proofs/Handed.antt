@@ -2,7 +2,7 @@
 use Prim.Native.Nat.{ℕ}
 use mathlib.Core.Path.{_≡_, ap, _∙_}
 use mathlib.Core.List.{List}
-use Rattle.refusal.specs.Answer.{Outcome}
+use Rattle.base_refusal.specs.Answer.{Outcome}
 use Rattle.oam_port.specs.declared.PortAnswer.{PortAnswer}
 use Rattle.oam_port.specs.Answers.{portMeans}
 use Rattle.oam_port.specs.Port.{Machine}

@@ -1,9 +1,9 @@
 -- What the answers of this crate mean, case by case: the value or the refusal's number, and the machine beside it.
 use Prim.Native.Nat.{ℕ}
 use mathlib.Core.List.{List}
-use Rattle.refusal.specs.Numbers.{numberOf}
-use Rattle.refusal.specs.Answer.{Answer, value, refused, Outcome}
-use Rattle.refusal.specs.Verdicts.{verdictMeans}
+use Rattle.base_refusal.specs.Numbers.{numberOf}
+use Rattle.base_refusal.specs.Answer.{Answer, value, refused, Outcome}
+use Rattle.base_refusal.specs.Verdicts.{verdictMeans}
 use Rattle.oam_port.specs.declared.PortAnswer.{PortAnswer}
 use Rattle.oam_port.specs.declared.ReadAnswer.{ReadAnswer}
 use Rattle.oam_port.specs.declared.ByteAnswer.{ByteAnswer}

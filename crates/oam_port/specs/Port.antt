@@ -4,7 +4,7 @@ use mathlib.Core.Bool.{cond}
 use mathlib.Core.List.{List}
 use lib.ListN.{getD, set, length}
 use lib.Dec.{ltb, eqb}
-use Rattle.refusal.specs.Answer.{Answer, value, provided, Outcome, outcome}
+use Rattle.base_refusal.specs.Answer.{Answer, value, provided, Outcome, outcome}
 use Rattle.oam_port.specs.declared.OamPort.{OamPort}
 
 -- the lent memory, and the port by value

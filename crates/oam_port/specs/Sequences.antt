@@ -2,8 +2,8 @@
 use Prim.Native.Nat.{ℕ}
 use mathlib.Core.Path.{_≡_}
 use mathlib.Core.List.{List, [], _∷_}
-use Rattle.refusal.specs.Answer.{Answer}
-use Rattle.refusal.specs.Verdicts.{verdictMeans}
+use Rattle.base_refusal.specs.Answer.{Answer}
+use Rattle.base_refusal.specs.Verdicts.{verdictMeans}
 use Rattle.oam_port.specs.declared.OamPort.{OamPort}
 use Rattle.oam_port.specs.declared.PortAnswer.{PortAnswer}
 use Rattle.oam_port.specs.declared.ReadAnswer.{ReadAnswer}

@@ -3,7 +3,7 @@ use Prim.Native.Nat.{_<_}
 use mathlib.Core.Path.{_≡_}
 use mathlib.Core.List.{List, [], _∷_}
 use lib.ListN.{length}
-use Rattle.refusal.specs.Answer.{value, refused}
+use Rattle.base_refusal.specs.Answer.{value, refused}
 use Rattle.oam_port.specs.Port.{Machine}
 use Rattle.oam_port.specs.Sequences.{Reply, written, byte}
 

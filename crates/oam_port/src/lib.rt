@@ -2,14 +2,14 @@
 // oam.rs, with its names.
 pub mod inner;
 
+use base_refusal::Refusal;
+use base_refusal::Verdict;
 use oam::OAM_SIZE;
-use refusal::Refusal;
-use refusal::Verdict;
 ghost use mathlib.Core.Path.{_≡_};
 ghost use mathlib.Core.List.{List};
 ghost use Prim.Native.Nat.{ℕ, _<_};
-ghost use Rattle.refusal.specs.declared.Verdict.the-variants.{Fine, Refused};
-ghost use Rattle.refusal.specs.Verdicts.{verdictMeans, Passed};
+ghost use Rattle.base_refusal.specs.declared.Verdict.the-variants.{Fine, Refused};
+ghost use Rattle.base_refusal.specs.Verdicts.{verdictMeans, Passed};
 ghost use Rattle.oam_port.specs.Answers.{portMeans, readMeans};
 ghost use Rattle.oam_port.specs.Port.{restPort, machine, addressTests, dataTests, addressed, wrote, readOut};
 

@@ -7,14 +7,14 @@ use native.Mathlib.Omega.{arith}
 use lib.ListN.{getD}
 use lib.Dec.{leb, eqb}
 use borrow.Author.Tests.{ne-eqb}
-use Rattle.line.specs.declared.Layer.the-variants.{Obj}
-use Rattle.line.specs.declared.Priority.{Priority}
-use Rattle.line.specs.declared.LinePixel.{LinePixel}
-use Rattle.line.specs.declared.Candidate.{Candidate}
-use Rattle.packed.specs.steps.Packed.{codeOf, headOf, packed, packedIf}
-use Rattle.packed.specs.steps.Laws.{rank-of}
+use Rattle.line_pixels.specs.declared.Layer.the-variants.{Obj}
+use Rattle.line_pixels.specs.declared.Priority.{Priority}
+use Rattle.line_pixels.specs.declared.LinePixel.{LinePixel}
+use Rattle.line_pixels.specs.declared.Candidate.{Candidate}
+use Rattle.packed_pixels.specs.steps.Packed.{codeOf, headOf, packed, packedIf}
+use Rattle.packed_pixels.specs.steps.Laws.{rank-of}
 use Rattle.sprite_tile.specs.Tile.{spritePixelOf}
-use Rattle.packed_tile.specs.steps.Shades.{shade}
+use Rattle.tiles_eight.specs.steps.Shades.{shade}
 
 -- a pixel of a tile
 pub sprite-shade : (colours : List ℕ) (palette : ℕ) (z : Priority) {code head i n : ℕ} → code ≡ codeOf Obj (leb 4 palette) →

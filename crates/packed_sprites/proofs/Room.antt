@@ -9,9 +9,9 @@ use lib.ListN.{length, getD, set, take, replicate, length-set, length-replicate,
 use lib.Seq.{take-suc, getD-set-same, getD-set-other}
 use lib.Dec.{eqb}
 use borrow.Author.Tests.{lt-ltb, le-ltb, eqb-true, eqb-false}
-use Rattle.line.specs.declared.Candidate.{Candidate}
-use Rattle.line.specs.Pixels.{none}
-use Rattle.packed.specs.steps.Packed.{packedIf}
+use Rattle.line_pixels.specs.declared.Candidate.{Candidate}
+use Rattle.line_pixels.specs.Pixels.{none}
+use Rattle.packed_pixels.specs.steps.Packed.{packedIf}
 use Rattle.tiles.specs.declared.BitDepth.the-variants.{Four}
 use Rattle.tiles_row.specs.steps.Rows.{rowIndex}
 use Rattle.sprite_tile.specs.declared.PlacedRow.{PlacedRow}

@@ -1,32 +1,32 @@
 // What a whole row asks of the sprites.
-use packed::inner::head;
-use packed::inner::pick;
-use packed_tile::inner::of_four;
+use packed_pixels::inner::head;
+use packed_pixels::inner::pick;
 use registers::PPURegisters;
 use registers::constants::OBJ_LAYER;
 use registers::inner::bit;
 use sprite_fetch::Fetched;
+use sprite_layer::inner::fetched_rows;
 use sprite_tile::inner::OBJ_COLORS;
 use sprite_tile::inner::PALETTE_COLORS;
-use sprites::inner::fetched_rows;
 use tiles::inner::plane_word;
+use tiles_eight::inner::of_four;
 use tiles_row::TileRow;
 ghost use mathlib.Core.Path.{_≡_};
 ghost use mathlib.Core.Bool.{cond, not, _||_};
 ghost use Prim.Native.Nat.{_+_, _<_, _≤_};
 ghost use lib.ListN.{length, getD, take};
 ghost use lib.Dec.{leb, eqb};
-ghost use Rattle.lists.specs.Tab.{tab};
+ghost use Rattle.base_lists.specs.Tab.{tab};
 ghost use Rattle.registers.specs.Bits.{bitOf};
 ghost use Rattle.row_tests.specs.Tests.{RowTested};
-ghost use Rattle.line.specs.Pixels.{none};
-ghost use Rattle.line.specs.declared.Layer.the-variants.{Obj};
-ghost use Rattle.packed.specs.steps.Packed.{codeOf, packedIf};
+ghost use Rattle.line_pixels.specs.Pixels.{none};
+ghost use Rattle.line_pixels.specs.declared.Layer.the-variants.{Obj};
+ghost use Rattle.packed_pixels.specs.steps.Packed.{codeOf, packedIf};
 ghost use Rattle.sprite_tile.specs.Tile.{spriteColours, spritePixelOf};
 ghost use Rattle.tiles.specs.declared.BitDepth.the-variants.{Four};
 ghost use Rattle.tiles_row.specs.steps.Rows.{TileRowSound, rowIndex};
 ghost use Rattle.sprite_fetch.specs.steps.Walk.{AllSound, drawnAll};
-ghost use Rattle.sprites.specs.Sprites as sprites;
+ghost use Rattle.sprite_layer.specs.Sprites as sprites;
 
 // A palette's colours, a part of colour memory.
 fn colors<'a>(g: &'a [u32], n: u8) -> &'a [u32]

@@ -1,8 +1,8 @@
 -- What each answer of this crate means, case by case: the value, or the refusal's number.
 use Prim.Native.Nat.{ℕ}
 use mathlib.Core.Bool.{Bool}
-use Rattle.refusal.specs.Numbers.{numberOf}
-use Rattle.refusal.specs.Answer.{Answer, value, refused}
+use Rattle.base_refusal.specs.Numbers.{numberOf}
+use Rattle.base_refusal.specs.Answer.{Answer, value, refused}
 use Rattle.registers.specs.declared.BoolAnswer.{BoolAnswer}
 use Rattle.registers.specs.declared.BoolAnswer.the-variants as B
 use Rattle.registers.specs.declared.WordAnswer.{WordAnswer}

@@ -2,7 +2,7 @@
 use Prim.Native.Nat.{ℕ, _*_, _/_, _%_, _^_}
 use mathlib.Core.Bool.{Bool, cond}
 use lib.Dec.{eqb, ltb}
-use Rattle.refusal.specs.Answer.{Answer, provided}
+use Rattle.base_refusal.specs.Answer.{Answer, provided}
 
 -- bit k of a number
 abbrev pub bitOf : ℕ → ℕ → Bool

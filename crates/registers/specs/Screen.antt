@@ -3,7 +3,7 @@ use Prim.Native.Nat.{ℕ, _%_}
 use mathlib.Core.Bool.{Bool, false}
 use lib.ListN.{replicate}
 use lib.Dec.{ltb}
-use Rattle.refusal.specs.Answer.{Answer, value, provided}
+use Rattle.base_refusal.specs.Answer.{Answer, value, provided}
 use Rattle.registers.specs.declared.PPURegisters.{PPURegisters}
 use Rattle.registers.specs.Bits.{bitOf}
 

@@ -5,8 +5,8 @@
 pub mod constants;
 pub mod inner;
 
+use base_refusal::Refusal;
 use constants::LAYERS;
-use refusal::Refusal;
 ghost use mathlib.Core.Path.{_≡_};
 ghost use Rattle.registers.specs.Answers.{boolMeans};
 ghost use Rattle.registers.specs.Screen.{cleared, modeOf, directColourSet, blanked, brightnessOf, spriteInterlace, layerBit};

@@ -1,19 +1,19 @@
 // The rows of a scene.
 use crate::scene;
-use digest::fold;
-use line::LinePixel;
-use line::Lines;
-use line::inner::bg_index;
-use modes::inner::bg_params;
+use bg_modes::inner::bg_params;
+use line_pixels::LinePixel;
+use line_pixels::Lines;
+use line_pixels::inner::bg_index;
 use registers::PPURegisters;
-use replay::drawing::after;
-use replay::drawing::ends;
-use replay::drawing::nth;
-use replay::hex;
-use replay::pixels::Pixels;
-use replay::pixels::bare;
-use replay::pixels::laid;
-use replay::pixels::lines;
+use test_digest::fold;
+use test_replay::drawing::after;
+use test_replay::drawing::ends;
+use test_replay::drawing::nth;
+use test_replay::hex;
+use test_replay::pixels::Pixels;
+use test_replay::pixels::bare;
+use test_replay::pixels::laid;
+use test_replay::pixels::lines;
 
 // Main's background and colour, then sub's colour.
 fn both(main: LinePixel, sub: LinePixel) -> u64 {
@@ -55,7 +55,7 @@ fn shown_lines(
 ) -> Lines {
     let r = lit(registers, bg, screens);
     let before = Lines::backdrops(cgram[0], r.coldata);
-    lines(background::render_bg_scanline(before, vram, cgram, r, bg_params(r, bg % 4), y))
+    lines(bg_layer::render_bg_scanline(before, vram, cgram, r, bg_params(r, bg % 4), y))
 }
 
 // What column x of row y shows by its candidates alone.
@@ -70,7 +70,7 @@ fn asked(
     let before = bare(cgram[0], r.coldata);
     laid(
         before,
-        background::bg_candidates(vram, cgram, r, bg_params(r, bg % 4), x, y),
+        bg_layer::bg_candidates(vram, cgram, r, bg_params(r, bg % 4), x, y),
     )
 }
 
@@ -79,7 +79,7 @@ fn checked(digest: u32, p: Pixels, has: u64) -> u32 {
     let main = p.main;
     let sub = p.sub;
     let v = both(main, sub);
-    replay::agree(v == has);
+    test_replay::agree(v == has);
     fold(digest, v)
 }
 

@@ -1,7 +1,7 @@
 // The registers of a scene.
 use registers::PPURegisters;
-use replay::drawing::low;
-use replay::section;
+use test_replay::drawing::low;
+use test_replay::section;
 
 // Mode 0, mode 3, mode 1 and one of the modes that draw as mode 1, in turn.
 const MODES: [u8; 20] = [0, 3, 1, 2, 0, 3, 1, 4, 0, 3, 1, 5, 0, 3, 1, 6, 0, 3, 1, 7];

@@ -5,7 +5,7 @@ mod scene;
 use std::num::wrapping_add_u32;
 
 fn main() {
-    let x = replay::seed(20);
+    let x = test_replay::seed(20);
     io::write_all(1, b"scenes\n");
     rows::scenes(x);
     io::write_all(1, b"piles\n");

@@ -1,25 +1,25 @@
 // The rows of a scene.
 use crate::scene;
-use choice::Chosen;
-use choice::VisibleSprite;
-use digest::fold;
-use digest::marks;
-use digest::one;
-use digest::place;
-use generator::next;
-use generator::word;
 use oam_flags::OamFlags;
-use replay::drawing::after;
-use replay::drawing::ends;
-use replay::drawing::low;
-use replay::drawing::nth;
-use replay::hex;
+use sprite_choice::Chosen;
+use sprite_choice::VisibleSprite;
+use test_digest::fold;
+use test_digest::marks;
+use test_digest::one;
+use test_digest::place;
+use test_numbers::next;
+use test_numbers::word;
+use test_replay::drawing::after;
+use test_replay::drawing::ends;
+use test_replay::drawing::low;
+use test_replay::drawing::nth;
+use test_replay::hex;
 ghost use Prim.Native.Nat.{_<_};
 
 fn choose(oam: &[u8], row: usize, objsel: u8, oamadd: u16, interlace: bool) -> Chosen {
-    let answer = choice::eval_sprites_for_scanline(oam, row, objsel, oamadd, interlace);
+    let answer = sprite_choice::eval_sprites_for_scanline(oam, row, objsel, oamadd, interlace);
     let verdict = answer.verdict;
-    replay::settle(verdict);
+    test_replay::settle(verdict);
     let chosen = answer.chosen;
     chosen
 }

@@ -1,15 +1,15 @@
 // Replays the oracle's list `oam`: the sprites that sprite memory describes, their sizes and their
 // columns.
-use digest::fold;
-use digest::marks;
-use digest::place;
-use digest::second_table_byte;
-use generator::next;
-use generator::word;
 use oam::Sprite;
 use oam::SpriteAnswer;
-use replay::drawing::low;
-use replay::hex;
+use test_digest::fold;
+use test_digest::marks;
+use test_digest::place;
+use test_digest::second_table_byte;
+use test_numbers::next;
+use test_numbers::word;
+use test_replay::drawing::low;
+use test_replay::hex;
 
 // The columns at which the rules change.
 const EDGES: [u16; 8] = [0, 1, 255, 256, 257, 504, 505, 511];
@@ -52,7 +52,7 @@ fn sprite(answer: SpriteAnswer) -> Sprite {
     match answer {
         SpriteAnswer::Is(s) => s,
         SpriteAnswer::Refused(n) => {
-            say::refuse(n);
+            base_refusal_line::refuse(n);
             Sprite::blank()
         }
     }

@@ -1,13 +1,13 @@
 // Replays the oracle's list `port`: the data port of sprite memory.
-use generator::next;
-use generator::word;
 use oam_port::ByteAnswer;
 use oam_port::OamPort;
-use replay::drawing::after;
-use replay::drawing::low;
-use replay::drawing::nth;
-use replay::hex;
 use std::num::wrapping_add_u32;
+use test_numbers::next;
+use test_numbers::word;
+use test_replay::drawing::after;
+use test_replay::drawing::low;
+use test_replay::drawing::nth;
+use test_replay::hex;
 
 // The addresses at which the rules change.
 const EDGES: [u16; 8] = [0, 255, 256, 271, 272, 511, 512, 65535];
@@ -21,13 +21,13 @@ struct Memory {
 // A digest of the memory.
 fn say(m: Memory, end: u8) {
     let oam = m.oam;
-    hex(replay::bytes(&oam) as u64, 8, end);
+    hex(test_replay::bytes(&oam) as u64, 8, end);
 }
 
 fn at(m: Memory, oamadd: u16) -> Memory {
     let answer = m.port.write_addr(oamadd);
     let verdict = answer.verdict;
-    replay::settle(verdict);
+    test_replay::settle(verdict);
     let port = answer.port;
     let oam = m.oam;
     Memory { port, oam }
@@ -37,7 +37,7 @@ fn write(m: Memory, value: u16) -> Memory {
     let mut oam = m.oam;
     let answer = m.port.write_data(&mut oam, low(value));
     let verdict = answer.verdict;
-    replay::settle(verdict);
+    test_replay::settle(verdict);
     let port = answer.port;
     Memory { port, oam }
 }
@@ -49,7 +49,7 @@ fn show(byte: ByteAnswer) {
             io::print_hex(1, b as u64, 2);
         }
         ByteAnswer::Refused(n) => {
-            say::refuse(n);
+            base_refusal_line::refuse(n);
         }
     }
 }
@@ -178,7 +178,7 @@ fn whole(given: Memory) {
 }
 
 fn main() {
-    let x = replay::seed(30);
+    let x = test_replay::seed(30);
     let port = OamPort::new();
     let oam = [0u8; 544];
     io::write_all(1, b"mixed\n");

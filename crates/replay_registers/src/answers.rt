@@ -1,9 +1,9 @@
 // What an answer holds, as a number. A refusal writes a word that no list has.
-use bg_registers::ScrollAnswer;
-use bg_registers::SizeAnswer;
-use mosaic::OffsetAnswer;
 use registers::BoolAnswer;
 use registers::WordAnswer;
+use registers_bg::ScrollAnswer;
+use registers_bg::SizeAnswer;
+use registers_mosaic::OffsetAnswer;
 ghost use Prim.Native.Nat.{_<_};
 
 fn refused() -> u64

@@ -7,20 +7,20 @@ use crate::answers::word;
 use crate::digits;
 use crate::line;
 use crate::scattered;
-use generator::next;
 use registers::PPURegisters;
+use test_numbers::next;
 
 // Map address; character address; 1 if the map is wide, and 2 if it is tall; 1 if the tile side is
 // 16, and 2 if mosaic is on; mosaic block.
 fn show(r: PPURegisters, bg: usize) {
-    digits(word(bg_registers::bg_tilemap_addr(r, bg)), 4);
-    digits(word(bg_registers::bg_tiledata_addr(r, bg)), 4);
-    digits(size(bg_registers::bg_tilemap_size(r, bg)), 1);
+    digits(word(registers_bg::bg_tilemap_addr(r, bg)), 4);
+    digits(word(registers_bg::bg_tiledata_addr(r, bg)), 4);
+    digits(size(registers_bg::bg_tilemap_size(r, bg)), 1);
     digits(
-        bit(bg_registers::bg_tile16(r, bg)) + bit(mosaic::bg_mosaic(r, bg)) * 2,
+        bit(registers_bg::bg_tile16(r, bg)) + bit(registers_mosaic::bg_mosaic(r, bg)) * 2,
         1,
     );
-    line(word(mosaic::bg_mosaic_block(r, bg)), 2);
+    line(word(registers_mosaic::bg_mosaic_block(r, bg)), 2);
 }
 
 pub(crate) fn backgrounds() {
@@ -31,10 +31,10 @@ pub(crate) fn backgrounds() {
 
 // The offset, and the four backgrounds', in decimal.
 fn offsets(r: PPURegisters) {
-    print_offset(mosaic::mosaic_voffset(r));
+    print_offset(registers_mosaic::mosaic_voffset(r));
     for bg in 0..4 {
         io::write_all(1, b" ");
-        print_offset(mosaic::bg_mosaic_voffset(r, bg));
+        print_offset(registers_mosaic::bg_mosaic_voffset(r, bg));
     }
     io::write_all(1, b"\n");
 }
@@ -61,18 +61,18 @@ fn draw(x: u32) -> Drawn {
     let b = next(a);
     let c = next(b);
     let d = next(c);
-    r.bg1hofs = generator::word(a);
-    r.bghofs[0] = generator::word(b);
-    r.bghofs[1] = generator::word(c);
-    r.bghofs[2] = generator::word(d);
+    r.bg1hofs = test_numbers::word(a);
+    r.bghofs[0] = test_numbers::word(b);
+    r.bghofs[1] = test_numbers::word(c);
+    r.bghofs[2] = test_numbers::word(d);
     let e = next(d);
     let f = next(e);
     let g = next(f);
     let h = next(g);
-    r.bg1vofs = generator::word(e);
-    r.bgvofs[0] = generator::word(f);
-    r.bgvofs[1] = generator::word(g);
-    r.bgvofs[2] = generator::word(h);
+    r.bg1vofs = test_numbers::word(e);
+    r.bgvofs[0] = test_numbers::word(f);
+    r.bgvofs[1] = test_numbers::word(g);
+    r.bgvofs[2] = test_numbers::word(h);
     Drawn { x: h, r }
 }
 
@@ -82,9 +82,9 @@ pub(crate) fn scroll() {
         let d = draw(x);
         x = d.x;
         let r = d.r;
-        line(scrolled(bg_registers::bg_scroll(r, 0)), 8);
-        line(scrolled(bg_registers::bg_scroll(r, 1)), 8);
-        line(scrolled(bg_registers::bg_scroll(r, 2)), 8);
-        line(scrolled(bg_registers::bg_scroll(r, 3)), 8);
+        line(scrolled(registers_bg::bg_scroll(r, 0)), 8);
+        line(scrolled(registers_bg::bg_scroll(r, 1)), 8);
+        line(scrolled(registers_bg::bg_scroll(r, 2)), 8);
+        line(scrolled(registers_bg::bg_scroll(r, 3)), 8);
     }
 }

@@ -86,11 +86,11 @@ fn says(r: PPURegisters, which: usize, x: usize) -> u64
     ensures { λ b. ⌜ b < 2 ⌝ }
 {
     match which {
-        0..=3 => bit(windows::bg_window_masked(r, which, x)),
-        4 => bit(windows::obj_window_masked(r, x)),
-        5 => bit(windows::in_color_window(r, x)),
-        6 => bit(windows::in_window1(r, x)),
-        _ => bit(windows::in_window2(r, x)),
+        0..=3 => bit(registers_windows::bg_window_masked(r, which, x)),
+        4 => bit(registers_windows::obj_window_masked(r, x)),
+        5 => bit(registers_windows::in_color_window(r, x)),
+        6 => bit(registers_windows::in_window1(r, x)),
+        _ => bit(registers_windows::in_window2(r, x)),
     }
 }
 

@@ -35,7 +35,7 @@ fn show(r: PPURegisters) {
     digits(r.force_blank() as u64, 1);
     digits(r.brightness() as u64, 1);
     digits(r.obj_interlace() as u64, 1);
-    digits(mosaic::mosaic_size(r) as u64, 2);
+    digits(registers_mosaic::mosaic_size(r) as u64, 2);
     digits(layers(r, 0), 2);
     digits(layers(r, 1), 2);
     digits(layers(r, 2), 2);

@@ -1,10 +1,10 @@
 // Columns that are asked layer by layer, without the lines.
-use line::LinePixel;
-use line::Lines;
+use line_pixels::LinePixel;
+use line_pixels::Lines;
 use registers::PPURegisters;
-use replay::pixels::bare;
-use replay::pixels::compare;
-use replay::pixels::laid;
+use test_replay::pixels::bare;
+use test_replay::pixels::compare;
+use test_replay::pixels::laid;
 
 // Column x of row y, as the lines hold it.
 fn column(
@@ -21,7 +21,7 @@ fn column(
     for layer in 0..5usize {
         let more = laid(
             held,
-            layers::layer_candidates(vram, cgram, oam, r, x, y, layer),
+            row_layers::layer_candidates(vram, cgram, oam, r, x, y, layer),
         );
         held = more;
     }

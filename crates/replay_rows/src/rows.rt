@@ -2,31 +2,31 @@
 use crate::columns;
 use crate::kinds;
 use crate::scene;
-use line::Lines;
+use line_pixels::Lines;
 use registers::PPURegisters;
-use replay::drawing::after;
-use replay::drawing::nth;
-use replay::hex;
-use replay::pixels;
-use replay::settle;
+use test_replay::drawing::after;
+use test_replay::drawing::nth;
+use test_replay::hex;
+use test_replay::pixels;
+use test_replay::settle;
 
 // Six digits of a digest of a row.
 fn digest(row: &[u8]) -> u64 {
-    (replay::bytes(row) % 16777216) as u64
+    (test_replay::bytes(row) % 16777216) as u64
 }
 
 fn drawn(vram: &[u16], cgram: &[u16], oam: &[u8], r: PPURegisters, y: usize) -> u64 {
     let mut row = [1u8; 768];
-    settle(renderer::render_scanline(&mut row, vram, cgram, oam, r, y));
+    settle(row_renderer::render_scanline(&mut row, vram, cgram, oam, r, y));
     digest(&row)
 }
 
 // The lines of row y, laid in another order, and one layer twice.
 fn stepwise(vram: &[u16], cgram: &[u16], oam: &[u8], r: PPURegisters, y: usize) -> Lines {
     let order = [4usize, 2, 0, 3, 1, 2];
-    let mut lines = pixels::lines(layers::backdrop_lines(cgram, r));
+    let mut lines = pixels::lines(row_layers::backdrop_lines(cgram, r));
     for k in 0..6usize {
-        let more = layers::render_layer(lines, vram, cgram, oam, r, y, order[k]);
+        let more = row_layers::render_layer(lines, vram, cgram, oam, r, y, order[k]);
         lines = pixels::lines(more);
     }
     lines
@@ -34,7 +34,7 @@ fn stepwise(vram: &[u16], cgram: &[u16], oam: &[u8], r: PPURegisters, y: usize) 
 
 fn composed(lines: Lines, r: PPURegisters) -> u64 {
     let mut row = [1u8; 768];
-    settle(composite::composite_line(&mut row, lines, r));
+    settle(row_composite::composite_line(&mut row, lines, r));
     digest(&row)
 }
 
@@ -42,8 +42,8 @@ fn composed(lines: Lines, r: PPURegisters) -> u64 {
 fn handed(vram: &[u16], cgram: &[u16], oam: &[u8], r: PPURegisters, y: usize) -> u64 {
     let other = [0u8; 172032];
     let mut picture = [0u8; 172032];
-    settle(renderer::render_into_picture(&mut picture, vram, cgram, oam, r, y));
-    digest(pictures::picture_row(&other, &picture, 1, y))
+    settle(row_renderer::render_into_picture(&mut picture, vram, cgram, oam, r, y));
+    digest(picture_rows::picture_row(&other, &picture, 1, y))
 }
 
 // The mosaic counter at row y.

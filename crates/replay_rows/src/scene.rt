@@ -1,11 +1,11 @@
 // The registers of a scene, of every value, and its sprites.
 use registers::PPURegisters;
-use replay::drawing::drawn;
-use replay::drawing::nth;
-use replay::placing::Place;
-use replay::placing::column;
-use replay::placing::with;
-use replay::section;
+use test_replay::drawing::drawn;
+use test_replay::drawing::nth;
+use test_replay::placing::Place;
+use test_replay::placing::column;
+use test_replay::placing::with;
+use test_replay::section;
 
 // Modes 0, 1 and 3 and one of the modes that draw as mode 1, in turn.
 const MODES: [u8; 20] = [0, 1, 3, 2, 0, 1, 3, 4, 0, 1, 3, 5, 0, 1, 3, 6, 0, 1, 3, 7];

@@ -3,13 +3,13 @@ mod pixels;
 mod rows;
 mod scene;
 
-use replay::drawing::after;
-use replay::drawing::words;
-use replay::memory::Filling;
-use replay::memory::vram;
+use test_replay::drawing::after;
+use test_replay::drawing::words;
+use test_replay::memory::Filling;
+use test_replay::memory::vram;
 
 fn main() {
-    let mut x = replay::seed(50);
+    let mut x = test_replay::seed(50);
     io::write_all(1, b"scenes\n");
     for filling in 0..4u16 {
         let memory = vram(Filling::Sprites, x);

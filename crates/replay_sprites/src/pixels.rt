@@ -1,14 +1,14 @@
 // What the list holds of a pixel.
-use digest::fold;
-use digest::one;
-use line::Candidate;
-use line::Layer;
-use line::LinePixel;
-use line::Lines;
-use line::Priority;
-use line::deposit;
-use replay::agree;
-use replay::pixels::same;
+use line_pixels::Candidate;
+use line_pixels::Layer;
+use line_pixels::LinePixel;
+use line_pixels::Lines;
+use line_pixels::Priority;
+use line_pixels::deposit;
+use test_digest::fold;
+use test_digest::one;
+use test_replay::agree;
+use test_replay::pixels::same;
 ghost use Prim.Native.Nat.{_<_};
 
 // A third of a sprite's priority, 0 for the backdrop's, 7 for any other.

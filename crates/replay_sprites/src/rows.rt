@@ -1,20 +1,20 @@
 // The rows of a scene.
 use crate::pixels;
 use crate::scene;
-use digest::fold;
-use digest::one;
-use line::Candidate;
-use line::LinePixel;
-use line::Lines;
+use line_pixels::Candidate;
+use line_pixels::LinePixel;
+use line_pixels::Lines;
 use registers::PPURegisters;
-use replay::drawing::after;
-use replay::drawing::ends;
-use replay::drawing::nth;
-use replay::hex;
-use replay::pixels::bare;
-use replay::pixels::compare;
-use replay::pixels::laid;
-use replay::pixels::lines;
+use test_digest::fold;
+use test_digest::one;
+use test_replay::drawing::after;
+use test_replay::drawing::ends;
+use test_replay::drawing::nth;
+use test_replay::hex;
+use test_replay::pixels::bare;
+use test_replay::pixels::compare;
+use test_replay::pixels::laid;
+use test_replay::pixels::lines;
 
 // The sprite line of row y.
 fn line_of(
@@ -24,9 +24,9 @@ fn line_of(
     r: PPURegisters,
     y: usize,
 ) -> [Candidate; 256] {
-    let answer = sprites::sprite_line(vram, cgram, oam, r, y);
+    let answer = sprite_layer::sprite_line(vram, cgram, oam, r, y);
     let verdict = answer.verdict;
-    replay::settle(verdict);
+    test_replay::settle(verdict);
     let line = answer.line;
     line
 }
@@ -50,7 +50,7 @@ fn shown_lines(
 ) -> Lines {
     let r = lit(registers, screens);
     let before = Lines::backdrops(cgram[0], r.coldata);
-    lines(sprites::render_sprites(before, vram, cgram, oam, r, y))
+    lines(sprite_layer::render_sprites(before, vram, cgram, oam, r, y))
 }
 
 // Column x of row y, as the lines hold it, asked by itself.
@@ -67,7 +67,7 @@ fn asked(
     let before = bare(cgram[0], r.coldata);
     let after = laid(
         before,
-        sprites::sprite_candidates(vram, cgram, oam, r, x, y),
+        sprite_layer::sprite_candidates(vram, cgram, oam, r, x, y),
     );
     compare(after, main, sub);
 }

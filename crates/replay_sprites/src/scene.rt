@@ -1,12 +1,12 @@
 // The registers and the sprites of a scene.
 use registers::PPURegisters;
-use replay::drawing::drawn;
-use replay::drawing::ends;
-use replay::drawing::low;
-use replay::placing::Place;
-use replay::placing::column;
-use replay::placing::with;
-use replay::section;
+use test_replay::drawing::drawn;
+use test_replay::drawing::ends;
+use test_replay::drawing::low;
+use test_replay::placing::Place;
+use test_replay::placing::column;
+use test_replay::placing::with;
+use test_replay::section;
 
 // Which bytes of the numbers drawn the registers have: objsel and setini, the windows of sprites, tmw, tsw
 // and coldata.

@@ -1,6 +1,6 @@
 // Replays the oracle's list `tiles`: the three decoders over a VRAM of random words.
-use generator::next;
-use generator::word;
+use test_numbers::next;
+use test_numbers::word;
 use tiles::IndexAnswer;
 ghost use Prim.Native.Nat.{_<_};
 

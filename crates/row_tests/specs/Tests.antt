@@ -5,7 +5,7 @@ use mathlib.Core.Path.{_≡_}
 use mathlib.Core.Bool.{Bool}
 use lib.ListN.{length}
 use lib.Dec.{ltb, leb, eqb}
-use Rattle.refusal.specs.Answer.{Answer, value, provided, _andThen_}
+use Rattle.base_refusal.specs.Answer.{Answer, value, provided, _andThen_}
 use Rattle.registers.specs.Scene.{Scene}
 
 -- a test: where it does not hold, the call is refused with its number

@@ -1,8 +1,8 @@
 // Each test, then the tests of each kind of call. Where all are passed, the contract also says what that
 // leaves for the work.
+use base_refusal::Refusal;
+use base_refusal::Verdict;
 use oam::OAM_SIZE;
-use refusal::Refusal;
-use refusal::Verdict;
 use registers::constants::COLOUR_WORDS;
 use registers::constants::LARGEST_COUNTER;
 use registers::constants::SCREEN_HEIGHT;
@@ -10,9 +10,9 @@ use tiles::inner::VRAM_WORDS;
 ghost use mathlib.Core.Path.{_≡_};
 ghost use mathlib.Core.Bool.{true};
 ghost use Prim.Native.Nat.{_<_};
-ghost use Rattle.refusal.specs.Answer.{_andThen_};
-ghost use Rattle.refusal.specs.Numbers.{numberOf};
-ghost use Rattle.refusal.specs.Verdicts.{verdictMeans, Passed};
+ghost use Rattle.base_refusal.specs.Answer.{_andThen_};
+ghost use Rattle.base_refusal.specs.Numbers.{numberOf};
+ghost use Rattle.base_refusal.specs.Verdicts.{verdictMeans, Passed};
 ghost use Rattle.row_tests.specs.Tests.{test, rowNumberTest, counterTest, baseTests, rowTests, RowTested, lastTests, lentTests, bgTests, choiceTests, partTests};
 
 // Fine where the test holds, otherwise the refusal.

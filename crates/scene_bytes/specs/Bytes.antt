@@ -3,7 +3,7 @@ use Prim.Native.Nat.{ℕ, _+_, _*_}
 use mathlib.Core.List.{List, [], _∷_}
 use lib.ListN.{getD}
 use lib.Dec.{eqb}
-use Rattle.lists.specs.Tab.{tab}
+use Rattle.base_lists.specs.Tab.{tab}
 use Rattle.registers.specs.declared.PPURegisters.{PPURegisters}
 
 -- the word from byte k on, little-endian

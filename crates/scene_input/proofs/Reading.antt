@@ -8,17 +8,17 @@ use lib.ListN.{length, getD, take, drop, length-append, length-take, length-drop
 use lib.Seq.{take-all, take-at, drop-at, drop-append-le, drop-drop, getD-take, getD-drop}
 use lib.Dec.{eqb, leb, ltb}
 use borrow.Author.Tests.{leb-true, leb-false, le-leb, lt-leb, ltb-false, eqb-false, ne-eqb}
-use Rattle.refusal.specs.Answer.{Answer, value, refused, provided, _andThen_}
-use Rattle.refusal.specs.Numbers.{numberOf}
-use Rattle.refusal.specs.Verdicts.{verdictMeans, Passed}
-use Rattle.refusal.specs.theorems.Verdicts.{passed}
-use Rattle.refusal.specs.declared.Refusal.{Refusal}
-use Rattle.refusal.specs.declared.Verdict.{Verdict}
-use Rattle.refusal.specs.declared.Verdict.the-variants.{Fine, Refused}
-use Rattle.scene.specs.File.{countAt, sectionTests, endTests, valueTests, sceneTests}
+use Rattle.base_refusal.specs.Answer.{Answer, value, refused, provided, _andThen_}
+use Rattle.base_refusal.specs.Numbers.{numberOf}
+use Rattle.base_refusal.specs.Verdicts.{verdictMeans, Passed}
+use Rattle.base_refusal.specs.theorems.Verdicts.{passed}
+use Rattle.base_refusal.specs.declared.Refusal.{Refusal}
+use Rattle.base_refusal.specs.declared.Verdict.{Verdict}
+use Rattle.base_refusal.specs.declared.Verdict.the-variants.{Fine, Refused}
+use Rattle.scene_file.specs.File.{countAt, sectionTests, endTests, valueTests, sceneTests}
 use Rattle.scene_bytes.specs.Bytes.{registersOf, wordsOf}
-use Rattle.scene.specs.steps.Pieces.{countTests, bodyTests, valuesIn}
-use Rattle.scene.specs.theorems.Whole.{no-pass, held, after}
+use Rattle.scene_file.specs.steps.Pieces.{countTests, bodyTests, valuesIn}
+use Rattle.scene_file.specs.theorems.Whole.{no-pass, held, after}
 use Rattle.scene_input.specs.Input.{Follows, ReadAs, SceneRead}
 use Rattle.scene_input.specs.steps.Input.{SectionRead, firstSection, sectionThen, heldThen, endOn, registersOn, HeldRegisters}
 

@@ -4,12 +4,12 @@ use Prim.Native.Nat.{ℕ}
 use mathlib.Core.Path.{_≡_}
 use mathlib.Core.Bool.{Bool, true}
 use mathlib.Core.List.{List, [], _++_}
-use Rattle.refusal.specs.Answer.{Answer}
-use Rattle.refusal.specs.Verdicts.{verdictMeans, Passed}
-use Rattle.refusal.specs.declared.Verdict.{Verdict}
+use Rattle.base_refusal.specs.Answer.{Answer}
+use Rattle.base_refusal.specs.Verdicts.{verdictMeans, Passed}
+use Rattle.base_refusal.specs.declared.Verdict.{Verdict}
 use Rattle.registers.specs.Scene.{scene}
 use Rattle.scene_bytes.specs.Bytes.{registersOf}
-use Rattle.scene.specs.File.{sceneTests, sceneOf}
+use Rattle.scene_file.specs.File.{sceneTests, sceneOf}
 
 -- what may follow in an input: nothing, where a read brought less than it asked for
 abbrev pub Follows : Bool → List ℕ → Type 0

@@ -1,16 +1,16 @@
 // Reads the sections of a scene into lent memories, each read into a lent piece, and tests each piece
 // as it comes.
+use base_refusal::Verdict;
+use frame_ports::Way;
+use frame_ports::inner::moved;
 use oam::OAM_SIZE;
-use ports::Way;
-use ports::inner::moved;
-use refusal::Verdict;
 use registers::constants::COLOUR_WORDS;
-use scene::inner::REGISTER_BYTES;
-use scene::inner::body_tested;
-use scene::inner::count_tested;
-use scene::inner::end_tested;
-use scene::inner::values_tested;
 use scene_bytes::inner::words;
+use scene_file::inner::REGISTER_BYTES;
+use scene_file::inner::body_tested;
+use scene_file::inner::count_tested;
+use scene_file::inner::end_tested;
+use scene_file::inner::values_tested;
 use tiles::inner::VRAM_WORDS;
 ghost use mathlib.Core.Path.{_≡_};
 ghost use Prim.Native.Nat.{_*_, _≤_};

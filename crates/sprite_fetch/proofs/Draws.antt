@@ -9,10 +9,10 @@ use lib.ListN.{length, getD, set, take, replicate}
 use lib.Seq.{take-suc}
 use lib.Dec.{ltb, eqb}
 use borrow.Author.Tests.{lt-ltb, le-ltb, ltb-true, ltb-false, eq-eqb, ne-eqb, eqb-true, eqb-false}
-use Rattle.lists.specs.Tab.{tab}
-use Rattle.lists.specs.theorems.Tab.{tab-ext, tab-set, tab-same}
-use Rattle.line.specs.declared.Candidate.{Candidate}
-use Rattle.line.specs.Pixels.{none}
+use Rattle.base_lists.specs.Tab.{tab}
+use Rattle.base_lists.specs.theorems.Tab.{tab-ext, tab-set, tab-same}
+use Rattle.line_pixels.specs.declared.Candidate.{Candidate}
+use Rattle.line_pixels.specs.Pixels.{none}
 use Rattle.tiles.specs.declared.BitDepth.the-variants.{Four}
 use Rattle.tiles_row.specs.steps.Rows.{rowIndex}
 use Rattle.sprite_tile.specs.declared.PlacedRow.{PlacedRow}

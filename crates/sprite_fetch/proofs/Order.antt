@@ -9,21 +9,21 @@ use native.Mathlib.Omega.{arith}
 use native.Mathlib.Nat.{eq-or-lt-of-le}
 use lib.ListN.{length, getD, set, take, drop, replicate, length-append, length-map, length-take}
 use lib.Seq.{take-all, take-append-le, drop-cons, getD-set-same, getD-set-other, getD-take, length-take-le}
-use Rattle.lists.specs.theorems.Each.{getD-map}
-use Rattle.lists.specs.Tab.{tab}
-use Rattle.lists.specs.theorems.Tab.{tab-none, tab-more, tab-split}
-use Rattle.lists.specs.Keep.{keep}
-use Rattle.lists.specs.theorems.Keep.{keep-none, keep-append, keep-yes, keep-no}
-use Rattle.lists.specs.Places.{places}
-use Rattle.lists.specs.theorems.Places.{places-none, places-more, length-places}
+use Rattle.base_lists.specs.theorems.Each.{getD-map}
+use Rattle.base_lists.specs.Tab.{tab}
+use Rattle.base_lists.specs.theorems.Tab.{tab-none, tab-more, tab-split}
+use Rattle.base_lists.specs.Keep.{keep}
+use Rattle.base_lists.specs.theorems.Keep.{keep-none, keep-append, keep-yes, keep-no}
+use Rattle.base_lists.specs.Places.{places}
+use Rattle.base_lists.specs.theorems.Places.{places-none, places-more, length-places}
 use Rattle.oam.specs.declared.Sprite.{Sprite}
 use Rattle.oam.specs.Sprites.{blankSprite}
 use Rattle.sprite_row.specs.SpriteRow.{x9, sizeIn, counts}
 use Rattle.sprite_tile.specs.declared.View.{View}
 use Rattle.sprite_tile.specs.declared.PlacedRow.{PlacedRow}
 use Rattle.sprite_tile.specs.steps.Placed.{PlacedSound}
-use Rattle.choice.specs.declared.VisibleSprite.{VisibleSprite}
-use Rattle.choice.specs.Choice.{blankPlace}
+use Rattle.sprite_choice.specs.declared.VisibleSprite.{VisibleSprite}
+use Rattle.sprite_choice.specs.Choice.{blankPlace}
 use Rattle.sprite_fetch.specs.declared.Fetched.{Fetched}
 use Rattle.sprite_fetch.specs.Fetch.{Tile, tile, countingPlaces, countingTiles, fetchOrder}
 use Rattle.sprite_fetch.specs.steps.Walk.{placedIn, blankRow, AllSound, spritesOf, fetchedList}

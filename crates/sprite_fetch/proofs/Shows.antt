@@ -10,20 +10,20 @@ use lib.ListN.{length, take, length-map}
 use lib.Seq.{take-nil}
 use lib.Dec.{ltb, eqb, lit<}
 use borrow.Author.Tests.{lt-ltb, le-ltb, ltb-true, ltb-false, eqb-true, eqb-false}
-use Rattle.lists.specs.Tab.{tab}
-use Rattle.lists.specs.theorems.Tab.{tab-ext}
-use Rattle.lists.specs.Places.{places}
-use Rattle.lists.specs.theorems.Places.{take-places}
-use Rattle.lists.specs.Each.{Each}
-use Rattle.lists.specs.theorems.Each.{each-tab, each-keep, each-take}
-use Rattle.signed.specs.theorems.Remainder.{remainder-small}
+use Rattle.base_lists.specs.Tab.{tab}
+use Rattle.base_lists.specs.theorems.Tab.{tab-ext}
+use Rattle.base_lists.specs.Places.{places}
+use Rattle.base_lists.specs.theorems.Places.{take-places}
+use Rattle.base_lists.specs.Each.{Each}
+use Rattle.base_lists.specs.theorems.Each.{each-tab, each-keep, each-take}
+use Rattle.base_signed.specs.theorems.Remainder.{remainder-small}
 use Rattle.tiles.specs.Tiles.{mirrored}
 use Rattle.oam.specs.declared.Sprite.{Sprite}
 use Rattle.oam.specs.steps.Sprites.{Sized}
 use Rattle.oam.proofs.Fair.{size-fair}
 use Rattle.sprite_row.specs.SpriteRow.{x9, sizeIn, tileAt, counts}
-use Rattle.line.specs.declared.Candidate.{Candidate}
-use Rattle.line.specs.Pixels.{none}
+use Rattle.line_pixels.specs.declared.Candidate.{Candidate}
+use Rattle.line_pixels.specs.Pixels.{none}
 use Rattle.sprite_tile.specs.declared.View.{View}
 use Rattle.sprite_tile.specs.Tile.{lineIn, spriteIndexAt, pixelIn}
 use Rattle.sprite_tile.specs.steps.Placed.{placedOf}

@@ -4,12 +4,12 @@ use mathlib.Core.Bool.{Bool, false, cond, _||_}
 use mathlib.Core.List.{List, [], _∷_, _++_, map}
 use lib.ListN.{length, take}
 use lib.Dec.{eqb}
-use Rattle.lists.specs.Tab.{tab}
-use Rattle.lists.specs.Keep.{keep}
+use Rattle.base_lists.specs.Tab.{tab}
+use Rattle.base_lists.specs.Keep.{keep}
 use Rattle.oam.specs.declared.Sprite.{Sprite}
 use Rattle.sprite_row.specs.SpriteRow.{x9, sizeIn, counts}
-use Rattle.line.specs.declared.Candidate.{Candidate}
-use Rattle.line.specs.Pixels.{none}
+use Rattle.line_pixels.specs.declared.Candidate.{Candidate}
+use Rattle.line_pixels.specs.Pixels.{none}
 use Rattle.sprite_tile.specs.declared.View.{View}
 use Rattle.sprite_tile.specs.Tile.{pixelIn}
 

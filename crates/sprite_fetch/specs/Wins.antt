@@ -4,8 +4,8 @@ use mathlib.Core.Path.{_≡_}
 use mathlib.Core.Bool.{false}
 use mathlib.Core.List.{List, [], _∷_, _++_, map}
 use Rattle.oam.specs.declared.Sprite.{Sprite}
-use Rattle.line.specs.declared.Candidate.{Candidate}
-use Rattle.line.specs.Pixels.{priority}
+use Rattle.line_pixels.specs.declared.Candidate.{Candidate}
+use Rattle.line_pixels.specs.Pixels.{priority}
 use Rattle.sprite_tile.specs.declared.View.{View}
 use Rattle.sprite_fetch.specs.Fetch.{tile, fetchedOf, fetchedPixel}
 

@@ -1,11 +1,11 @@
 // What the crates above ask of the fetch.
 use crate::Fetched;
-use choice::Chosen;
-use choice::inner::MAX_TILES;
-use line::Candidate;
-use line::Priority;
+use line_pixels::Candidate;
+use line_pixels::Priority;
 use oam::inner::nine_bits;
 use oam::inner::sprite_size;
+use sprite_choice::Chosen;
+use sprite_choice::inner::MAX_TILES;
 use sprite_row::inner::tile_counts;
 use sprite_tile::PlacedRow;
 use sprite_tile::View;

@@ -2,7 +2,7 @@
 use Prim.Native.Nat.{ℕ, zero, suc, _+_, _-_, _*_, _/_, _%_}
 use mathlib.Core.Bool.{Bool, cond, not, _&&_, _||_}
 use lib.Dec.{ltb, leb, eqb}
-use Rattle.signed.specs.Remainder.{remainder}
+use Rattle.base_signed.specs.Remainder.{remainder}
 use Rattle.oam.specs.declared.Sprite.{Sprite}
 use Rattle.oam.specs.declared.SpriteSize.{SpriteSize}
 use Rattle.oam.specs.Sprites.{sizeOf}

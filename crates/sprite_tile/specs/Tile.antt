@@ -7,10 +7,10 @@ use lib.Dec.{eqb, leb}
 use Rattle.tiles.specs.Tiles.{indexOf, mirrored}
 use Rattle.oam.specs.declared.Sprite.{Sprite}
 use Rattle.sprite_row.specs.SpriteRow.{lineOf, sizeIn}
-use Rattle.line.specs.declared.Layer.the-variants.{Obj}
-use Rattle.line.specs.declared.Priority.{Priority}
-use Rattle.line.specs.declared.Candidate.{Candidate}
-use Rattle.line.specs.Pixels.{spritePriority}
+use Rattle.line_pixels.specs.declared.Layer.the-variants.{Obj}
+use Rattle.line_pixels.specs.declared.Priority.{Priority}
+use Rattle.line_pixels.specs.declared.Candidate.{Candidate}
+use Rattle.line_pixels.specs.Pixels.{spritePriority}
 use Rattle.sprite_tile.specs.declared.View.{View}
 
 -- interlace doubles the line

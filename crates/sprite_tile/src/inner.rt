@@ -1,10 +1,10 @@
 // What the crates above ask of a sprite's tiles.
 use crate::PlacedRow;
 use crate::View;
-use line::Candidate;
-use line::Layer;
-use line::LinePixel;
-use line::Priority;
+use line_pixels::Candidate;
+use line_pixels::Layer;
+use line_pixels::LinePixel;
+use line_pixels::Priority;
 use oam::Sprite;
 use oam::SpriteSize;
 use oam::inner::nine_bits;

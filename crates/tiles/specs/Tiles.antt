@@ -4,7 +4,7 @@ use mathlib.Core.Bool.{Bool, true, false, _&&_}
 use mathlib.Core.List.{List}
 use lib.ListN.{length, getD}
 use lib.Dec.{eqb, ltb}
-use Rattle.refusal.specs.Answer.{Answer, value, provided, _andThen_}
+use Rattle.base_refusal.specs.Answer.{Answer, value, provided, _andThen_}
 use Rattle.tiles.specs.declared.BitDepth.{BitDepth}
 use Rattle.tiles.specs.declared.BitDepth.the-variants.{Two, Four, Eight}
 

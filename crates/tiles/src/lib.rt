@@ -2,12 +2,12 @@
 // mode_3.rs, with their names.
 pub mod inner;
 
+use base_refusal::Refusal;
+use base_refusal::Verdict;
 use inner::VRAM_WORDS;
-use refusal::Refusal;
-use refusal::Verdict;
 ghost use mathlib.Core.Path.{_≡_};
 ghost use Prim.Native.Nat.{_<_};
-ghost use Rattle.refusal.specs.Verdicts.{verdictMeans, Passed};
+ghost use Rattle.base_refusal.specs.Verdicts.{verdictMeans, Passed};
 ghost use Rattle.tiles.specs.Tiles.{pairsOf, tileWords, tileTests, tileAnswer};
 ghost use Rattle.tiles.specs.Answers.{indexMeans};
 

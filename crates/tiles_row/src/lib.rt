@@ -2,7 +2,7 @@
 // of.
 pub mod inner;
 
-use line::Priority;
+use line_pixels::Priority;
 
 // The word address of the tile in VRAM, the row of it, and what holds for all eight pixels: whether
 // they are mirrored, their palette and their priority.

@@ -2,9 +2,9 @@
 use mathlib.Core.Path.{_≡_, refl}
 use mathlib.Core.Bool.{true, false, cond}
 use lib.IntN.{pos, _+ℤ_, _-ℤ_}
-use Rattle.signed.specs.Remainder.{remainder}
+use Rattle.base_signed.specs.Remainder.{remainder}
 use Rattle.registers.specs.declared.PPURegisters.{PPURegisters}
-use Rattle.mosaic.specs.Mosaic.{mosaicSize}
+use Rattle.registers_mosaic.specs.Mosaic.{mosaicSize}
 use Rattle.bg_map.specs.declared.BgParams.{BgParams}
 use Rattle.bg_map.specs.Source.{extentOf, sourceLine}
 use Rattle.bg_map.specs.Map.{entryOf}

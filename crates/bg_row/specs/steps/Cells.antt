@@ -2,7 +2,7 @@
 use Prim.Native.Nat.{ℕ, _+_, _*_, _/_, _%_}
 use mathlib.Core.Bool.{Bool}
 use mathlib.Core.List.{List}
-use Rattle.line.specs.declared.Candidate.{Candidate}
+use Rattle.line_pixels.specs.declared.Candidate.{Candidate}
 use Rattle.bg_map.specs.declared.BgParams.{BgParams}
 use Rattle.bg_map.specs.Source.{extentOf}
 use Rattle.bg_tile.specs.Tile.{pixelAt}

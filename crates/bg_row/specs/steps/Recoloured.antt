@@ -4,12 +4,12 @@ use mathlib.Core.Path.{_≡_, sym, _∙_}
 use mathlib.Core.Bool.{Bool, true, false, _&&_}
 use mathlib.Core.List.{List, map}
 use lib.ListN.{getD}
-use Rattle.lists.specs.theorems.Changed.{part-map}
+use Rattle.base_lists.specs.theorems.Changed.{part-map}
 use Rattle.registers.specs.declared.PPURegisters.{PPURegisters}
 use Rattle.registers.specs.Screen as screen
 use Rattle.colour.specs.Colour.{directColour}
-use Rattle.line.specs.Pixels.{backgroundOf}
-use Rattle.line.specs.steps.Recoloured.{recoloured}
+use Rattle.line_pixels.specs.Pixels.{backgroundOf}
+use Rattle.line_pixels.specs.steps.Recoloured.{recoloured}
 use Rattle.bg_map.specs.declared.BgParams.{BgParams}
 use Rattle.bg_map.specs.declared.MapEntry.{MapEntry}
 use Rattle.bg_map.specs.Source.{sourceColumn, sourceLine}

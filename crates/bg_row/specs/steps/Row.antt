@@ -1,8 +1,8 @@
 -- What the tests leave for a background's row.
 use Prim.Native.Nat.{ℕ, _<_}
 use mathlib.Core.Path.{_≡_}
-use Rattle.line.specs.declared.Layer.{Layer}
-use Rattle.line.specs.Pixels.{backgroundOf}
+use Rattle.line_pixels.specs.declared.Layer.{Layer}
+use Rattle.line_pixels.specs.Pixels.{backgroundOf}
 
 -- what is known once the tests are passed
 pub record BgRowSound (colours : ℕ) (layer : Layer) (y : ℕ) : Type 0 where

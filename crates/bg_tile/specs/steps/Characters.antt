@@ -4,7 +4,7 @@ use Prim.Native.Nat.{ℕ, _%_}
 use mathlib.Core.Bool.{Bool}
 use mathlib.Core.List.{List}
 use Rattle.tiles.specs.Tiles.{tileWords}
-use Rattle.line.specs.declared.Candidate.{Candidate}
+use Rattle.line_pixels.specs.declared.Candidate.{Candidate}
 use Rattle.bg_map.specs.declared.BgParams.{BgParams}
 use Rattle.bg_map.specs.declared.MapEntry.{MapEntry}
 use Rattle.bg_map.specs.Map.{entryAt}

@@ -1,6 +1,6 @@
-use Rattle.refusal.specs.theorems.Verdicts.{passed, by-verdict}
+use Rattle.base_refusal.specs.theorems.Verdicts.{passed, by-verdict}
 use mathlib.Core.Path.{ap, _∙_}
-use Rattle.refusal.specs.Answer.{value}
+use Rattle.base_refusal.specs.Answer.{value}
 use borrow.Author.Needs.{needs}
 use Rattle.oam.proofs.get_sprite.Statement.{statement}
 use Rattle.oam.proofs.get_sprite.Tie as tie

@@ -1,5 +1,5 @@
 use mir.Syntax.{w16}
-use Rattle.signed.proofs.Signed.{remainder-of}
+use Rattle.base_signed.proofs.Signed.{remainder-of}
 use borrow.Author.Needs.{needs}
 use Rattle.oam.proofs.nine_bits.Statement.{statement}
 use Rattle.oam.proofs.nine_bits.Tie as tie

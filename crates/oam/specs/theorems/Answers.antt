@@ -1,6 +1,6 @@
 -- The meaning settles the answer: two answers of one meaning are one.
 use mathlib.Core.Path.{_≡_, refl}
-use Rattle.refusal.specs.steps.Settled.{Made, byValue, byRefusal, settled}
+use Rattle.base_refusal.specs.steps.Settled.{Made, byValue, byRefusal, settled}
 use Rattle.oam.specs.declared.SpriteAnswer.{SpriteAnswer}
 use Rattle.oam.specs.declared.SpriteAnswer.the-variants.{Is, Refused}
 use Rattle.oam.specs.Answers.{spriteMeans}

@@ -8,7 +8,7 @@ use lib.Dec.{ltb}
 use lib.ListN.{getD}
 use lib.Signed.{mag}
 use borrow.Author.Tests.{lt-ltb, ltb-true, ltb-false}
-use Rattle.signed.specs.Remainder.{remainder}
+use Rattle.base_signed.specs.Remainder.{remainder}
 use Rattle.oam.specs.Sprites.{signed9, x9Of, spriteOf}
 
 module _ (n : ℕ) (h : n < 512) where

@@ -2,8 +2,8 @@
 use Prim.Native.Nat.{ℕ}
 use mathlib.Core.Path.{_≡_, refl}
 use mathlib.Core.List.{List}
-use Rattle.refusal.specs.steps.Settled.{Made, byValue, byRefusal, settled}
-use Rattle.refusal.specs.theorems.Settled.{one-verdict}
+use Rattle.base_refusal.specs.steps.Settled.{Made, byValue, byRefusal, settled}
+use Rattle.base_refusal.specs.theorems.Settled.{one-verdict}
 use Rattle.oam_port.specs.declared.PortAnswer.{PortAnswer}
 use Rattle.oam_port.specs.declared.ReadAnswer.{ReadAnswer}
 use Rattle.oam_port.specs.declared.ByteAnswer.{ByteAnswer}

@@ -2,7 +2,7 @@
 -- one memory, one address and one latch.
 use mathlib.Core.Path.{_≡_, refl, ap, ap₂, _∙_}
 use mathlib.Core.List.{List, _∷_}
-use Rattle.lists.specs.Runs.{run, replies}
+use Rattle.base_lists.specs.Runs.{run, replies}
 use Rattle.oam_port.specs.Port.{Machine}
 use Rattle.oam_port.specs.Sequences.{Access, Reply, step, reply, Called, PortCalls, written, byte, wroteAddress, wroteData, readData, noCall, thenCalls}
 

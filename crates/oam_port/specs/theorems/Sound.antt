@@ -9,9 +9,9 @@ use lib.Dec.{ltb, eqb}
 use lib.ListN.{getD, length, set, length-set}
 use lib.Seq.{getD-set-same}
 use borrow.Author.Tests.{lt-ltb, le-ltb, eq-eqb, ne-eqb}
-use Rattle.refusal.specs.Answer.{Answer, value, refused, provided, Outcome, outcome}
-use Rattle.lists.specs.Runs.{run, replies}
-use Rattle.lists.specs.theorems.Runs.{run-keeps}
+use Rattle.base_refusal.specs.Answer.{Answer, value, refused, provided, Outcome, outcome}
+use Rattle.base_lists.specs.Runs.{run, replies}
+use Rattle.base_lists.specs.theorems.Runs.{run-keeps}
 use Rattle.oam_port.specs.Port.{Machine, machine, addressTests, memoryPlace, memoryByte, next, move, latch, commit, storeHigh, setAddress, store, addressed, wrote, readOut}
 use Rattle.oam_port.specs.Sequences.{Access, addressWrite, dataWrite, dataRead, written, byte, step, reply}
 use Rattle.oam_port.specs.Sound.{PortSound, Spoken, AllSpoken}

@@ -1,6 +1,6 @@
 -- The meaning settles the answer: two answers of one meaning are one.
 use mathlib.Core.Path.{_≡_, refl}
-use Rattle.refusal.specs.steps.Settled.{Made, byValue, byRefusal, settled}
+use Rattle.base_refusal.specs.steps.Settled.{Made, byValue, byRefusal, settled}
 use Rattle.registers.specs.declared.BoolAnswer.{BoolAnswer}
 use Rattle.registers.specs.declared.BoolAnswer.the-variants as B
 use Rattle.registers.specs.declared.WordAnswer.{WordAnswer}

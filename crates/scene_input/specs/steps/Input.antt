@@ -4,11 +4,11 @@ use mathlib.Core.Path.{_≡_}
 use mathlib.Core.Bool.{Bool}
 use mathlib.Core.List.{List, _++_}
 use lib.ListN.{length, take, drop}
-use Rattle.refusal.specs.Answer.{Answer, _andThen_}
-use Rattle.refusal.specs.Verdicts.{verdictMeans, Passed}
-use Rattle.refusal.specs.declared.Verdict.{Verdict}
+use Rattle.base_refusal.specs.Answer.{Answer, _andThen_}
+use Rattle.base_refusal.specs.Verdicts.{verdictMeans, Passed}
+use Rattle.base_refusal.specs.declared.Verdict.{Verdict}
 use Rattle.scene_bytes.specs.Bytes.{wordsOf}
-use Rattle.scene.specs.File.{sectionTests, endTests}
+use Rattle.scene_file.specs.File.{sectionTests, endTests}
 use Rattle.scene_input.specs.Input.{Follows}
 
 -- on the way: a section of n bytes from the first byte on, of whose body P holds

@@ -5,14 +5,14 @@ use mathlib.Core.Bool.{cond, not}
 use mathlib.Core.List.{List, [], _∷_, map}
 use lib.ListN.{getD}
 use lib.Dec.{eqb, leb}
-use Rattle.lists.specs.theorems.Changed.{part-map}
+use Rattle.base_lists.specs.theorems.Changed.{part-map}
 use Rattle.tiles.specs.Tiles.{mirrored}
 use Rattle.oam.specs.declared.Sprite.{Sprite}
 use Rattle.sprite_row.specs.SpriteRow.{sizeIn}
-use Rattle.line.specs.declared.Layer.the-variants.{Obj}
-use Rattle.line.specs.declared.Priority.{Priority}
-use Rattle.line.specs.Pixels.{none, spritePriority}
-use Rattle.line.specs.steps.Recoloured.{recoloured, one-changed, none-recoloured, there-recoloured}
+use Rattle.line_pixels.specs.declared.Layer.the-variants.{Obj}
+use Rattle.line_pixels.specs.declared.Priority.{Priority}
+use Rattle.line_pixels.specs.Pixels.{none, spritePriority}
+use Rattle.line_pixels.specs.steps.Recoloured.{recoloured, one-changed, none-recoloured, there-recoloured}
 use Rattle.sprite_tile.specs.declared.View.{View}
 use Rattle.sprite_tile.specs.Tile.{lineIn, spriteIndexAt, spriteColours, spritePixelOf, pixelIn}
 use Rattle.sprite_fetch.specs.Fetch.{Tile, among, across, over, fetchedOf, fetchedPixel, linePixel}

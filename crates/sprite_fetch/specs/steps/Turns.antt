@@ -3,7 +3,7 @@ use Prim.Native.Nat.{ℕ, _-_}
 use mathlib.Core.Path.{_≡_}
 use mathlib.Core.List.{List, map}
 use lib.ListN.{length, take}
-use Rattle.lists.specs.theorems.Each.{take-map}
+use Rattle.base_lists.specs.theorems.Each.{take-map}
 use Rattle.oam.specs.declared.Sprite.{Sprite}
 use Rattle.sprite_fetch.specs.Fetch.{tile, countingPlaces, fetchOrder, fetchedOf}
 

@@ -5,20 +5,20 @@ use mathlib.Core.Bool.{Bool, false, cond, not, _&&_}
 use mathlib.Core.List.{List, [], _∷_, map}
 use lib.ListN.{length, getD, take}
 use lib.Dec.{ltb, eqb}
-use Rattle.lists.specs.Tab.{tab}
-use Rattle.lists.specs.Places.{places}
+use Rattle.base_lists.specs.Tab.{tab}
+use Rattle.base_lists.specs.Places.{places}
 use Rattle.oam.specs.declared.Sprite.{Sprite}
 use Rattle.sprite_row.specs.SpriteRow.{sizeIn}
-use Rattle.line.specs.declared.Candidate.{Candidate}
-use Rattle.line.specs.Pixels.{priority, none}
+use Rattle.line_pixels.specs.declared.Candidate.{Candidate}
+use Rattle.line_pixels.specs.Pixels.{priority, none}
 use Rattle.tiles.specs.declared.BitDepth.the-variants.{Four}
 use Rattle.tiles_row.specs.steps.Rows.{rowIndex}
 use Rattle.sprite_tile.specs.declared.View.{View}
 use Rattle.sprite_tile.specs.declared.PlacedRow.{PlacedRow}
 use Rattle.sprite_tile.specs.Tile.{lineIn, spriteColours, spritePixelOf}
 use Rattle.sprite_tile.specs.steps.Placed.{PlacedSound, placedOf}
-use Rattle.choice.specs.declared.VisibleSprite.{VisibleSprite}
-use Rattle.choice.specs.Choice.{blankPlace}
+use Rattle.sprite_choice.specs.declared.VisibleSprite.{VisibleSprite}
+use Rattle.sprite_choice.specs.Choice.{blankPlace}
 use Rattle.sprite_fetch.specs.declared.Fetched.{Fetched}
 use Rattle.sprite_fetch.specs.Fetch.{Tile}
 

@@ -4,7 +4,7 @@ use mathlib.Core.Path.{_≡_, sym, ap, _∙_}
 use mathlib.Core.List.{List, _∷_, _++_}
 use lib.ListN.{length, drop}
 use lib.Seq.{drop-append-seam}
-use Rattle.lists.specs.theorems.Each.{take-append}
+use Rattle.base_lists.specs.theorems.Each.{take-append}
 use Rattle.oam.specs.declared.Sprite.{Sprite}
 use Rattle.sprite_fetch.specs.Fetch.{countingTiles, fetchOrder, fetched, fetchedOf}
 

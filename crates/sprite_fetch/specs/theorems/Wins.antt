@@ -6,8 +6,8 @@ use mathlib.Core.List.{List, [], _∷_, _++_, map, append-nil}
 use lib.ListN.{length, take, length-append, length-map}
 use lib.Dec.{eqb}
 use Rattle.oam.specs.declared.Sprite.{Sprite}
-use Rattle.line.specs.declared.Candidate.{Candidate}
-use Rattle.line.specs.Pixels.{none}
+use Rattle.line_pixels.specs.declared.Candidate.{Candidate}
+use Rattle.line_pixels.specs.Pixels.{none}
 use Rattle.sprite_tile.specs.declared.View.{View}
 use Rattle.sprite_tile.specs.Tile.{lineIn, pixelIn}
 use Rattle.sprite_fetch.specs.Fetch.{tile, countingPlaces, countingTiles, fetchOrder, fetchedOf, among, across, fetchedPixel, linePixel}

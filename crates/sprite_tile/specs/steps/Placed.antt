@@ -3,7 +3,7 @@ use Prim.Native.Nat.{ℕ, _/_, _%_, _<_}
 use Rattle.tiles.specs.Tiles.{mirrored}
 use Rattle.oam.specs.declared.Sprite.{Sprite}
 use Rattle.sprite_row.specs.SpriteRow.{x9, tileAt}
-use Rattle.line.specs.Pixels.{spritePriority}
+use Rattle.line_pixels.specs.Pixels.{spritePriority}
 use Rattle.tiles_row.specs.steps.Rows.{TileRowSound}
 use Rattle.sprite_tile.specs.declared.PlacedRow.{PlacedRow}
 use Rattle.sprite_tile.specs.Tile.{tileWord}

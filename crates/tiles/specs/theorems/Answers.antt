@@ -1,6 +1,6 @@
 -- The meaning settles the answer: two answers of one meaning are one.
 use mathlib.Core.Path.{_≡_, refl}
-use Rattle.refusal.specs.steps.Settled.{Made, byValue, byRefusal, settled}
+use Rattle.base_refusal.specs.steps.Settled.{Made, byValue, byRefusal, settled}
 use Rattle.tiles.specs.declared.IndexAnswer.{IndexAnswer}
 use Rattle.tiles.specs.declared.IndexAnswer.the-variants.{Is, Refused}
 use Rattle.tiles.specs.Answers.{indexMeans}

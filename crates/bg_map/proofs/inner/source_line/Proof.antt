@@ -1,7 +1,7 @@
 use Rattle.bg_map.proofs.Lines.{less-fits, scrolled-fits, line-of}
 use Rattle.bg_map.specs.Source.{sourceLine}
-use Rattle.signed.proofs.Signed.{widens}
-use Rattle.signed.specs.Remainder.{remainder}
+use Rattle.base_signed.proofs.Signed.{widens}
+use Rattle.base_signed.specs.Remainder.{remainder}
 use lib.IntN.{pos, _+ℤ_, _-ℤ_}
 use Prim.Native.Nat.{ℕ, _+_, _<_}
 use mathlib.Core.Path.{subst, _∙_}

@@ -1,8 +1,8 @@
 use mathlib.Core.Path.{_≡_, sym, ap, subst, _∙_}
 use native.Mathlib.Omega.{arith}
 use Rattle.bg_row.proofs.Spread.{block-start, first-start, next-start}
-use Rattle.lists.specs.steps.Filling.{Front, front-none, front-more, front-at, front-all}
-use Rattle.laying.specs.Laying.{candidateIn}
+use Rattle.base_lists.specs.steps.Filling.{Front, front-none, front-more, front-at, front-all}
+use Rattle.line_laying.specs.Laying.{candidateIn}
 use Prim.Native.Nat.{ℕ, _+_, _-_, _%_, _<_, _≤_}
 use borrow.Author.Needs.{needs}
 use Rattle.bg_row.proofs.inner.blocks.Statement.{statement}

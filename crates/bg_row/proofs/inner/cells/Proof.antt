@@ -3,7 +3,7 @@ use Rattle.bg_row.specs.steps.Cells.{cellAt}
 use Rattle.bg_tile.proofs.Laws.{palette-length}
 use Rattle.bg_tile.specs.steps.Characters.{characterRowAt, cellIn}
 use Rattle.bg_tile.specs.Tile.{bgColours}
-use Rattle.lists.specs.steps.Filling.{Front, front-none, front-more, front-at, front-all}
+use Rattle.base_lists.specs.steps.Filling.{Front, front-none, front-more, front-at, front-all}
 use denote.Ref.{now}
 use native.Mathlib.Nat.{mod-lt, add-zero}
 use mathlib.Core.Path.{_≡_, subst, _∙_}

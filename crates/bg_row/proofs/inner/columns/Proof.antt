@@ -1,6 +1,6 @@
 use Rattle.bg_row.proofs.Spread.{alone}
-use Rattle.laying.specs.Laying.{candidateIn}
-use Rattle.lists.specs.theorems.Tab.{tab-ext}
+use Rattle.line_laying.specs.Laying.{candidateIn}
+use Rattle.base_lists.specs.theorems.Tab.{tab-ext}
 use mathlib.Core.Path.{ap, _∙_}
 use Prim.Native.Nat.{ℕ, _+_}
 use borrow.Author.Needs.{needs}

@@ -1,10 +1,10 @@
 use Rattle.bg_row.proofs.Decode.{cell-shown}
 use Rattle.bg_row.proofs.Spread.{within-cells}
 use Rattle.bg_row.specs.steps.Cells.{cellAt}
-use Rattle.mosaic.specs.Mosaic.{blockIf}
-use Rattle.laying.specs.Laying.{candidateIn}
-use Rattle.line.specs.Pixels.{none}
-use Rattle.lists.specs.theorems.Tab.{tab-ext, getD-tab}
+use Rattle.registers_mosaic.specs.Mosaic.{blockIf}
+use Rattle.line_laying.specs.Laying.{candidateIn}
+use Rattle.line_pixels.specs.Pixels.{none}
+use Rattle.base_lists.specs.theorems.Tab.{tab-ext, getD-tab}
 use denote.Ref.{now}
 use mathlib.Core.Path.{_∙_}
 use Prim.Native.Nat.{_+_, _-_, _%_}

@@ -1,5 +1,5 @@
-use Rattle.lists.specs.steps.Filling.{Front, front-none, front-more, front-all}
-use Rattle.laying.specs.Laying.{candidateIn}
+use Rattle.base_lists.specs.steps.Filling.{Front, front-none, front-more, front-all}
+use Rattle.line_laying.specs.Laying.{candidateIn}
 use mathlib.Core.Path.{refl}
 use Prim.Native.Nat.{_+_, _-_}
 use borrow.Author.Needs.{needs}

@@ -1,6 +1,6 @@
 use Prim.Native.Nat.{ℕ}
 use mathlib.Core.Path.{_≡_, ap, _∙_}
-use Rattle.line.specs.Pixels.{backgroundOf}
+use Rattle.line_pixels.specs.Pixels.{backgroundOf}
 use Rattle.bg_tile.specs.Tile.{startOf}
 use Rattle.bg_tile.proofs.Laws.{palette-fits}
 use borrow.Author.Needs.{needs}

@@ -1,5 +1,5 @@
 use mir.Syntax.{w16}
-use Rattle.signed.proofs.Signed.{read-back}
+use Rattle.base_signed.proofs.Signed.{read-back}
 use Rattle.oam.specs.Sprites.{spriteOf, spriteWith}
 use borrow.Author.Needs.{needs}
 use Rattle.oam.proofs.inner.get_sprite.Statement.{statement}

@@ -1,4 +1,4 @@
-use Rattle.signed.proofs.Signed.{widens, remainder-widened}
+use Rattle.base_signed.proofs.Signed.{widens, remainder-widened}
 use borrow.Author.Needs.{needs}
 use Rattle.oam.proofs.inner.nine_bits.Statement.{statement}
 use Rattle.oam.proofs.inner.nine_bits.Tie as tie

@@ -1,5 +1,5 @@
 use Rattle.oam_port.specs.Port.{machine, readOut}
-use Rattle.refusal.specs.theorems.Verdicts.{passed, by-fine, by-refusal}
+use Rattle.base_refusal.specs.theorems.Verdicts.{passed, by-fine, by-refusal}
 use denote.Ref.{now}
 use mathlib.Core.Path.{refl, ap}
 use borrow.Author.Needs.{needs}

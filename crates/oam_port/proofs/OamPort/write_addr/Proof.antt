@@ -1,6 +1,6 @@
 use Rattle.oam_port.specs.Port.{machine, addressed}
 use Rattle.oam_port.proofs.Handed.{handed}
-use Rattle.refusal.specs.theorems.Verdicts.{by-fine, by-refusal}
+use Rattle.base_refusal.specs.theorems.Verdicts.{by-fine, by-refusal}
 use mathlib.Core.Path.{refl, ap}
 use borrow.Author.Needs.{needs}
 use Rattle.oam_port.proofs.OamPort.write_addr.Statement.{statement}

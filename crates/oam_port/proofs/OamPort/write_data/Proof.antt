@@ -1,6 +1,6 @@
 use Rattle.oam_port.specs.Port.{wrote}
 use Rattle.oam_port.proofs.Handed.{handed}
-use Rattle.refusal.specs.theorems.Verdicts.{passed, by-fine, by-refusal}
+use Rattle.base_refusal.specs.theorems.Verdicts.{passed, by-fine, by-refusal}
 use mathlib.Core.Path.{refl}
 use borrow.Author.Needs.{needs}
 use Rattle.oam_port.proofs.OamPort.write_data.Statement.{statement}

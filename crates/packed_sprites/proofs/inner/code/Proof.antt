@@ -1,8 +1,8 @@
 use native.Mathlib.Omega.{arith}
 use mathlib.Core.Path.{sym}
 use borrow.Author.Tests.{le-leb, lt-leb}
-use Rattle.line.specs.declared.Layer.the-variants.{Obj}
-use Rattle.packed.specs.steps.Packed.{codeOf}
+use Rattle.line_pixels.specs.declared.Layer.the-variants.{Obj}
+use Rattle.packed_pixels.specs.steps.Packed.{codeOf}
 use Rattle.packed_sprites.proofs.inner.code.Statement.{statement}
 use Rattle.packed_sprites.proofs.inner.code.Tie as tie
 

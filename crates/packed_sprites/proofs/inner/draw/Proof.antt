@@ -4,11 +4,11 @@ use mathlib.Core.Path.{_≡_, sym, subst, _∙_}
 use native.Mathlib.Omega.{arith}
 use denote.Ref.{now}
 use lib.ListN.{length, getD, set, take}
-use Rattle.lists.specs.theorems.Tab.{tab-ext, getD-tab}
-use Rattle.lists.specs.steps.Filling.{long-field}
-use Rattle.line.specs.declared.Candidate.{Candidate}
-use Rattle.line.specs.Pixels.{none}
-use Rattle.packed.specs.steps.Packed.{packedIf}
+use Rattle.base_lists.specs.theorems.Tab.{tab-ext, getD-tab}
+use Rattle.base_lists.specs.steps.Filling.{long-field}
+use Rattle.line_pixels.specs.declared.Candidate.{Candidate}
+use Rattle.line_pixels.specs.Pixels.{none}
+use Rattle.packed_pixels.specs.steps.Packed.{packedIf}
 use Rattle.sprite_tile.specs.declared.PlacedRow.{PlacedRow}
 use Rattle.sprite_tile.specs.Tile.{spriteColours, spritePixelOf}
 use Rattle.tiles.specs.declared.BitDepth.the-variants.{Four}

@@ -2,7 +2,7 @@ use borrow.Author.Needs.{needs}
 use Prim.Native.Nat.{_+_, _-_}
 use mathlib.Core.Path.{refl}
 use lib.ListN.{getD}
-use Rattle.lists.specs.steps.Filling.{Front, front-none, front-more, front-all}
+use Rattle.base_lists.specs.steps.Filling.{Front, front-none, front-more, front-all}
 use Rattle.packed_sprites.proofs.inner.middle.Statement.{statement}
 use Rattle.packed_sprites.proofs.inner.middle.Tie as tie
 

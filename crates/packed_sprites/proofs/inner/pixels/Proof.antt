@@ -2,12 +2,12 @@ use borrow.Author.Needs.{needs}
 use denote.Ref.{now}
 use mathlib.Core.Path.{_∙_}
 use lib.ListN.{length}
-use Rattle.lists.specs.theorems.Tab.{tab-ext}
+use Rattle.base_lists.specs.theorems.Tab.{tab-ext}
 use Rattle.tiles.specs.Tiles.{mirrored}
 use Rattle.sprite_tile.specs.Tile.{spriteColours}
 use Rattle.sprite_tile.proofs.Laws.{colours-length}
-use Rattle.packed_tile.specs.steps.Shades.{fourOf, shade}
-use Rattle.packed_tile.proofs.Indexes.{four-is}
+use Rattle.tiles_eight.specs.steps.Shades.{fourOf, shade}
+use Rattle.tiles_eight.proofs.Indexes.{four-is}
 use Rattle.packed_sprites.proofs.Over.{sprite-shade}
 use Rattle.packed_sprites.proofs.inner.pixels.Statement.{statement}
 use Rattle.packed_sprites.proofs.inner.pixels.Tie as tie

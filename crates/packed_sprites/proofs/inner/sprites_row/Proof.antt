@@ -6,16 +6,16 @@ use mathlib.Core.Bool.{Bool, cond, _||_}
 use mathlib.Core.List.{map}
 use native.Mathlib.Omega.{arith}
 use lib.ListN.{take}
-use Rattle.lists.specs.Tab.{tab}
-use Rattle.lists.specs.theorems.Tab.{tab-same}
-use Rattle.lists.specs.theorems.Changed.{map-tab}
+use Rattle.base_lists.specs.Tab.{tab}
+use Rattle.base_lists.specs.theorems.Tab.{tab-same}
+use Rattle.base_lists.specs.theorems.Changed.{map-tab}
 use Rattle.registers.specs.Bits.{bitOf}
-use Rattle.line.specs.Pixels.{none}
-use Rattle.packed.specs.steps.Packed.{packedIf}
+use Rattle.line_pixels.specs.Pixels.{none}
+use Rattle.packed_pixels.specs.steps.Packed.{packedIf}
 use Rattle.sprite_fetch.specs.Fetch.{linePixel}
 use Rattle.sprite_fetch.specs.steps.Walk.{drawnAll}
 use Rattle.sprite_fetch.proofs.Shows.{drawn-line}
-use Rattle.sprites.specs.Sprites.{viewOf, chosenSprites, spritePixel}
+use Rattle.sprite_layer.specs.Sprites.{viewOf, chosenSprites, spritePixel}
 use Rattle.packed_sprites.proofs.inner.sprites_row.Statement.{statement}
 use Rattle.packed_sprites.proofs.inner.sprites_row.Tie as tie
 

@@ -1,5 +1,5 @@
 use mathlib.Core.Path.{refl}
-use Rattle.refusal.specs.theorems.Verdicts.{passed, by-verdict}
+use Rattle.base_refusal.specs.theorems.Verdicts.{passed, by-verdict}
 use borrow.Author.Needs.{needs}
 use Rattle.row_tests.proofs.inner.and_then.Statement.{statement}
 use Rattle.row_tests.proofs.inner.and_then.Tie as tie

@@ -3,8 +3,8 @@ use Prim.Native.Nat.{_-_}
 use mathlib.Core.Path.{refl, sym, _∙_}
 use native.Mathlib.Omega.{arith}
 use lib.ListN.{length, getD}
-use Rattle.lists.specs.theorems.Tab.{by-getD}
-use Rattle.lists.specs.steps.Filling.{Front, front-none, front-more, front-all}
+use Rattle.base_lists.specs.theorems.Tab.{by-getD}
+use Rattle.base_lists.specs.steps.Filling.{Front, front-none, front-more, front-all}
 use Rattle.scene_bytes.proofs.inner.copy.Statement.{statement}
 use Rattle.scene_bytes.proofs.inner.copy.Tie as tie
 

@@ -4,7 +4,7 @@ use mathlib.Core.Path.{refl}
 use native.Mathlib.Omega.{arith}
 use lib.ListN.{length}
 use Rattle.scene_bytes.specs.Bytes.{wordAt, wordsOf}
-use Rattle.lists.specs.steps.Filling.{Front, front-none, front-more, front-all}
+use Rattle.base_lists.specs.steps.Filling.{Front, front-none, front-more, front-all}
 use Rattle.scene_bytes.proofs.inner.words.Statement.{statement}
 use Rattle.scene_bytes.proofs.inner.words.Tie as tie
 

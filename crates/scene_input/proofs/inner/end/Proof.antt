@@ -1,7 +1,7 @@
 use Rattle.scene_input.proofs.Reading.{read-end}
 use mathlib.Core.Path.{ap, _∙_}
 use lib.ListN.{take}
-use Rattle.scene.specs.File.{endTests}
+use Rattle.scene_file.specs.File.{endTests}
 use borrow.Author.Needs.{needs}
 use Rattle.scene_input.proofs.inner.end.Statement.{statement}
 use Rattle.scene_input.proofs.inner.end.Tie as tie

@@ -4,10 +4,10 @@ use native.Mathlib.Omega.{arith}
 use borrow.Author.Needs.{needs}
 use denote.Ref.{now}
 use lib.ListN.{length, getD, set, take}
-use Rattle.lists.specs.Tab.{tab}
-use Rattle.lists.specs.steps.Filling.{long-field}
-use Rattle.line.specs.declared.Candidate.{Candidate}
-use Rattle.line.specs.Pixels.{none}
+use Rattle.base_lists.specs.Tab.{tab}
+use Rattle.base_lists.specs.steps.Filling.{long-field}
+use Rattle.line_pixels.specs.declared.Candidate.{Candidate}
+use Rattle.line_pixels.specs.Pixels.{none}
 use Rattle.sprite_tile.specs.Tile.{spritePixelOf}
 use Rattle.tiles.specs.declared.BitDepth.the-variants.{Four}
 use Rattle.tiles_row.specs.steps.Rows.{rowIndex}

@@ -6,13 +6,13 @@ use native.Mathlib.Omega.{arith}
 use borrow.Author.Needs.{needs}
 use borrow.Author.Tests.{not-true, not-false}
 use lib.ListN.{length, getD, drop, drop-of-length-le}
-use Rattle.lists.specs.steps.Filling.{long-field}
-use Rattle.signed.proofs.Signed.{remainder-of}
+use Rattle.base_lists.specs.steps.Filling.{long-field}
+use Rattle.base_signed.proofs.Signed.{remainder-of}
 use Rattle.oam.specs.declared.Sprite.{Sprite}
 use Rattle.oam.specs.declared.SpriteSize.{SpriteSize}
 use Rattle.oam.specs.Sprites.{blankSprite}
 use Rattle.sprite_row.specs.SpriteRow.{x9, sizeIn, counts}
-use Rattle.choice.specs.Choice.{blankPlace}
+use Rattle.sprite_choice.specs.Choice.{blankPlace}
 use Rattle.sprite_tile.specs.Tile.{lineIn}
 use Rattle.sprite_tile.specs.steps.Placed.{placedOf}
 use Rattle.sprite_fetch.specs.Fetch.{Tile, tile, fetchOrder}

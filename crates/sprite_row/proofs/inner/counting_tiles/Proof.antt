@@ -1,5 +1,5 @@
 use mir.Syntax.{w16}
-use Rattle.signed.proofs.Signed.{remainder-of}
+use Rattle.base_signed.proofs.Signed.{remainder-of}
 use Rattle.sprite_row.specs.SpriteRow.{countTo}
 use Rattle.oam.specs.declared.SpriteSize.{SpriteSize}
 use native.Mathlib.Omega.{arith}

@@ -1,5 +1,5 @@
 use mir.Syntax.{w16}
-use Rattle.signed.proofs.Signed.{remainder-of}
+use Rattle.base_signed.proofs.Signed.{remainder-of}
 use Rattle.sprite_row.proofs.Row.{misses, meets}
 use borrow.Author.Needs.{needs}
 use Rattle.sprite_row.proofs.inner.in_range.Statement.{statement}

@@ -2,7 +2,7 @@ use mir.Syntax.{w16}
 use native.Mathlib.Omega.{arith}
 use mathlib.Core.Path.{_∙_}
 use Prim.Native.Nat.{_*_, _+_, _/_, _%_}
-use Rattle.signed.proofs.Signed.{remainder-of}
+use Rattle.base_signed.proofs.Signed.{remainder-of}
 use Rattle.sprite_tile.specs.Tile.{tileWord}
 use Rattle.sprite_tile.specs.steps.Placed.{placedOf}
 use borrow.Author.Needs.{needs}

@@ -1,0 +1,13 @@
+use borrow.Author.Needs.{needs}
+use Rattle.base_refusal_line.proofs.refuse.Statement.{statement}
+use Rattle.base_refusal_line.proofs.refuse.Tie as tie
+
+pub refuse-spec : {M : Type 1} → statement M
+refuse-spec =
+    tie.close
+    (tie.spec
+    (λ c κs. search needs)
+    (λ c. search needs)
+    (λ c. search needs)
+    (λ c κs. search needs)
+    (λ c. search needs))

@@ -1,6 +1,0 @@
-use borrow.Author.Needs.{needs}
-use Rattle.bg_registers.proofs.inner.bg_tiledata_addr.Statement.{statement}
-use Rattle.bg_registers.proofs.inner.bg_tiledata_addr.Tie as tie
-
-pub bg-tiledata-addr-spec : {M : Type 1} → statement M
-bg-tiledata-addr-spec = tie.close (tie.spec (λ c κs. search needs) (λ c. search needs) (λ c. search needs) (λ c. search needs))

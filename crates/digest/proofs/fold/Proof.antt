@@ -1,6 +1,0 @@
-use borrow.Author.Needs.{needs}
-use Rattle.digest.proofs.fold.Statement.{statement}
-use Rattle.digest.proofs.fold.Tie as tie
-
-pub fold-spec : {M : Type 1} → statement M
-fold-spec = tie.close (tie.spec (λ c. search needs) (λ c. search needs) (λ c. search needs) (λ c. search needs) (λ c. search needs) (λ c. search needs))

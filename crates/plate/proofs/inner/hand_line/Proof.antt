@@ -1,6 +1,0 @@
-use borrow.Author.Needs.{needs}
-use Rattle.plate.proofs.inner.hand_line.Statement.{statement}
-use Rattle.plate.proofs.inner.hand_line.Tie as tie
-
-pub hand-line-spec : {M : Type 1} → statement M
-hand-line-spec = tie.close (tie.spec (λ c κs. search needs) (λ c. search needs) (λ c. search needs))

@@ -1,9 +1,0 @@
--- What the answer of this crate means: the refusal's number or none, and the sprite line beside it.
-use mathlib.Core.List.{List}
-use Rattle.refusal.specs.Answer.{Outcome}
-use Rattle.refusal.specs.Verdicts.{verdictMeans}
-use Rattle.line.specs.declared.Candidate.{Candidate}
-use Rattle.sprites.specs.declared.SpriteLineAnswer.{SpriteLineAnswer}
-
-abbrev pub spriteLineMeans : SpriteLineAnswer → Outcome Unit (List Candidate)
-spriteLineMeans a = record { said = verdictMeans (a .verdict); left = a .line }
