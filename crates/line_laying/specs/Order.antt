@@ -22,9 +22,13 @@ module _ {S : Type 0} where
     bare : ((k : S) → Has c k → ⊥) → p ≡ b → Seen c b p
     nearest : (k : S) → Has c k → ((j : S) → Has c j → nearness c j ≤ nearness c k) → p ≡ c k .pixel → Seen c b p
 
-  -- each layer that has a candidate is among ks
-  abbrev pub Covers : (ℕ → S → Candidate) → List S → Type 0
-  Covers on ks = (x : ℕ) → x < 256 → (k : S) → Has (on x) k → List·Memᴰ k ks
+  -- of the layers' rows c what each has at column x
+  abbrev pub at : (S → ℕ → Candidate) → ℕ → S → Candidate
+  at c x k = c k x
+
+  -- each layer that has a candidate at some column is among ks
+  abbrev pub Covers : (S → ℕ → Candidate) → List S → Type 0
+  Covers c ks = (x : ℕ) → x < 256 → (k : S) → Has (at c x) k → List·Memᴰ k ks
 
   -- no two candidates tie
   abbrev pub NoTies : (S → Candidate) → Type 0
@@ -36,9 +40,9 @@ module _ {S : Type 0} where
     layAll [] lines = lines
     layAll (k ∷ ks) lines = layAll ks (layLines (shown k) (row k) lines)
 
-    -- the layers' candidates at column x of the main screen, and of the sub screen
-    abbrev pub mainAt : ℕ → S → Candidate
-    mainAt x k = candidatesOf (shown k) x (row k x) .main
+    -- the candidates of layer k on the main screen, column by column, and on the sub screen
+    abbrev pub mainRow : S → ℕ → Candidate
+    mainRow k x = candidatesOf (shown k) x (row k x) .main
 
-    abbrev pub subAt : ℕ → S → Candidate
-    subAt x k = candidatesOf (shown k) x (row k x) .sub
+    abbrev pub subRow : S → ℕ → Candidate
+    subRow k x = candidatesOf (shown k) x (row k x) .sub

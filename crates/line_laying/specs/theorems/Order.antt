@@ -19,7 +19,7 @@ use Rattle.line_pixels.specs.Pixels.{noPixel, deposited, backdropOf, backdropLi
 use Rattle.line_pixels.specs.theorems.Pixels.{length-backdrop, getD-backdrop}
 use Rattle.line_laying.specs.declared.Shown.{Shown}
 use Rattle.line_laying.specs.Laying.{layLine, layLines}
-use Rattle.line_laying.specs.Order.{Has, nearness, Seen, Covers, NoTies, layAll, mainAt, subAt, bare, nearest}
+use Rattle.line_laying.specs.Order.{Has, nearness, Seen, at, Covers, NoTies, layAll, mainRow, subRow, bare, nearest}
 
 module _ {S : Type 0} where
   -- then one pixel is seen
@@ -85,10 +85,6 @@ module _ {S : Type 0} where
   lays c (k ∷ ks) l = lays c ks (layLine (c k) l)
 
   module _ (c : S → ℕ → Candidate) where
-    -- the candidates at column x
-    abbrev pub at : ℕ → S → Candidate
-    at x k = c k x
-
     length-lays : (ks : List S) (l : List LinePixel) → length l ≡ 256 → length (lays c ks l) ≡ 256
     unfolding lays
     length-lays [] l e = e
@@ -96,21 +92,21 @@ module _ {S : Type 0} where
 
     -- a line is laid pixel by pixel
     lays-at : (ks : List S) (l : List LinePixel) (x : ℕ) → x < 256 →
-        getD (lays c ks l) x noPixel ≡ laid (at x) ks (getD l x noPixel)
+        getD (lays c ks l) x noPixel ≡ laid (at c x) ks (getD l x noPixel)
     unfolding lays laid
     lays-at [] l x h = refl
     lays-at (k ∷ ks) l x h =
         lays-at ks (layLine (c k) l) x h
-        ∙ ap (laid (at x) ks) (getD-tab (λ y. deposited (getD l y noPixel) (c k y)) 256 x noPixel h)
+        ∙ ap (laid (at c x) ks) (getD-tab (λ y. deposited (getD l y noPixel) (c k y)) 256 x noPixel h)
 
-    lays-seen : (ks : List S) (colour x : ℕ) → x < 256 → ((k : S) → Has (at x) k → List·Memᴰ k ks) →
-        Seen (at x) (backdropOf colour) (getD (lays c ks (backdropLine colour)) x noPixel)
+    lays-seen : (ks : List S) (colour x : ℕ) → x < 256 → ((k : S) → Has (at c x) k → List·Memᴰ k ks) →
+        Seen (at c x) (backdropOf colour) (getD (lays c ks (backdropLine colour)) x noPixel)
     lays-seen ks colour x h m =
-        subst (Seen (at x) (backdropOf colour))
-        (sym (lays-at ks (backdropLine colour) x h ∙ ap (laid (at x) ks) (getD-backdrop colour x h)))
-        (laid-seen (at x) ks (backdropOf colour) refl m)
+        subst (Seen (at c x) (backdropOf colour))
+        (sym (lays-at ks (backdropLine colour) x h ∙ ap (laid (at c x) ks) (getD-backdrop colour x h)))
+        (laid-seen (at c x) ks (backdropOf colour) refl m)
 
-    one-line : (ks js : List S) → Covers at ks → Covers at js → ((x : ℕ) → x < 256 → NoTies (at x)) → (colour : ℕ) →
+    one-line : (ks js : List S) → Covers c ks → Covers c js → ((x : ℕ) → x < 256 → NoTies (at c x)) → (colour : ℕ) →
         lays c ks (backdropLine colour) ≡ lays c js (backdropLine colour)
     one-line ks js m n t colour =
         let long = length-lays ks (backdropLine colour) (length-backdrop colour) in
@@ -121,46 +117,46 @@ module _ {S : Type 0} where
 
   module _ (shown : S → Shown) (row : S → ℕ → Candidate) where
     -- Said once of a screen: how its line is taken from the lines, what its candidates are and in which colour it starts.
-    module _ (of : Lines → List LinePixel) (on : ℕ → S → Candidate) (colour : ℕ)
-        (laid-on : (k : S) (lines : Lines) → of (layLines (shown k) (row k) lines) ≡ layLine (λ x. on x k) (of lines)) where
-      screen-line : (ks : List S) (lines : Lines) → of (layAll shown row ks lines) ≡ lays (λ k x. on x k) ks (of lines)
+    module _ (of : Lines → List LinePixel) (on : S → ℕ → Candidate) (colour : ℕ)
+        (laid-on : (k : S) (lines : Lines) → of (layLines (shown k) (row k) lines) ≡ layLine (on k) (of lines)) where
+      screen-line : (ks : List S) (lines : Lines) → of (layAll shown row ks lines) ≡ lays on ks (of lines)
       unfolding layAll lays
       screen-line [] lines = refl
       screen-line (k ∷ ks) lines =
-          screen-line ks (layLines (shown k) (row k) lines) ∙ ap (lays (λ j x. on x j) ks) (laid-on k lines)
+          screen-line ks (layLines (shown k) (row k) lines) ∙ ap (lays on ks) (laid-on k lines)
 
       module _ (start : Lines) (starts : of start ≡ backdropLine colour) where
-        from-start : (ks : List S) → lays (λ k x. on x k) ks (backdropLine colour) ≡ of (layAll shown row ks start)
-        from-start ks = sym (screen-line ks start ∙ ap (lays (λ j x. on x j) ks) starts)
+        from-start : (ks : List S) → lays on ks (backdropLine colour) ≡ of (layAll shown row ks start)
+        from-start ks = sym (screen-line ks start ∙ ap (lays on ks) starts)
 
         screen-seen : (ks : List S) → Covers on ks → (x : ℕ) → x < 256 →
-            Seen (on x) (backdropOf colour) (getD (of (layAll shown row ks start)) x noPixel)
+            Seen (at on x) (backdropOf colour) (getD (of (layAll shown row ks start)) x noPixel)
         screen-seen ks m x h =
-            subst (λ (l : List LinePixel). Seen (on x) (backdropOf colour) (getD l x noPixel)) (from-start ks)
-            (lays-seen (λ k y. on y k) ks colour x h (m x h))
+            subst (λ (l : List LinePixel). Seen (at on x) (backdropOf colour) (getD l x noPixel)) (from-start ks)
+            (lays-seen on ks colour x h (m x h))
 
         one-screen : (ks js : List S) → Covers on ks → Covers on js →
-            ((x : ℕ) → x < 256 → NoTies (on x)) → of (layAll shown row ks start) ≡ of (layAll shown row js start)
-        one-screen ks js m n t = sym (from-start ks) ∙ (one-line (λ k y. on y k) ks js m n t colour ∙ from-start js)
+            ((x : ℕ) → x < 256 → NoTies (at on x)) → of (layAll shown row ks start) ≡ of (layAll shown row js start)
+        one-screen ks js m n t = sym (from-start ks) ∙ (one-line on ks js m n t colour ∙ from-start js)
 
     module _ (main sub : ℕ) where
       -- From the backdrops, every layer that has a candidate laid at least once, in whatever order: at each pixel of the main
       -- line the candidate of greatest priority is seen, or the backdrop where there is none.
-      pub main-seen : (ks : List S) → Covers (mainAt shown row) ks → (x : ℕ) → x < 256 →
-          Seen (mainAt shown row x) (backdropOf main) (getD (layAll shown row ks (backdropLines main sub) .main) x noPixel)
-      main-seen = screen-seen (λ l. l .main) (mainAt shown row) main (λ k l. refl) (backdropLines main sub) refl
+      pub main-seen : (ks : List S) → Covers (mainRow shown row) ks → (x : ℕ) → x < 256 →
+          Seen (at (mainRow shown row) x) (backdropOf main) (getD (layAll shown row ks (backdropLines main sub) .main) x noPixel)
+      main-seen = screen-seen (λ l. l .main) (mainRow shown row) main (λ k l. refl) (backdropLines main sub) refl
 
       -- and so of the sub line
-      pub sub-seen : (ks : List S) → Covers (subAt shown row) ks → (x : ℕ) → x < 256 →
-          Seen (subAt shown row x) (backdropOf sub) (getD (layAll shown row ks (backdropLines main sub) .sub) x noPixel)
-      sub-seen = screen-seen (λ l. l .sub) (subAt shown row) sub (λ k l. refl) (backdropLines main sub) refl
+      pub sub-seen : (ks : List S) → Covers (subRow shown row) ks → (x : ℕ) → x < 256 →
+          Seen (at (subRow shown row) x) (backdropOf sub) (getD (layAll shown row ks (backdropLines main sub) .sub) x noPixel)
+      sub-seen = screen-seen (λ l. l .sub) (subRow shown row) sub (λ k l. refl) (backdropLines main sub) refl
 
       -- So where no two candidates tie, any two orders leave the same lines.
-      pub order-never-shows : (ks js : List S) → Covers (mainAt shown row) ks → Covers (subAt shown row) ks → Covers (mainAt shown row) js → Covers (subAt shown row) js →
-          ((x : ℕ) → x < 256 → NoTies (mainAt shown row x)) → ((x : ℕ) → x < 256 → NoTies (subAt shown row x)) →
+      pub order-never-shows : (ks js : List S) → Covers (mainRow shown row) ks → Covers (subRow shown row) ks → Covers (mainRow shown row) js → Covers (subRow shown row) js →
+          ((x : ℕ) → x < 256 → NoTies (at (mainRow shown row) x)) → ((x : ℕ) → x < 256 → NoTies (at (subRow shown row) x)) →
           layAll shown row ks (backdropLines main sub) ≡ layAll shown row js (backdropLines main sub)
       order-never-shows ks js m m′ n n′ t u =
           λ i. record {
-            main = one-screen (λ l. l .main) (mainAt shown row) main (λ k l. refl) (backdropLines main sub) refl ks js m n t i;
-            sub = one-screen (λ l. l .sub) (subAt shown row) sub (λ k l. refl) (backdropLines main sub) refl ks js m′ n′ u i;
+            main = one-screen (λ l. l .main) (mainRow shown row) main (λ k l. refl) (backdropLines main sub) refl ks js m n t i;
+            sub = one-screen (λ l. l .sub) (subRow shown row) sub (λ k l. refl) (backdropLines main sub) refl ks js m′ n′ u i;
           }

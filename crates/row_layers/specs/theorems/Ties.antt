@@ -17,7 +17,7 @@ use Rattle.line_pixels.specs.declared.Candidate.{Candidate}
 use Rattle.line_pixels.specs.Pixels.{none}
 use Rattle.line_laying.specs.declared.Shown.{Shown}
 use Rattle.line_laying.specs.Laying.{onMain, onSub, onScreen}
-use Rattle.line_laying.specs.Order.{Has, nearness, NoTies, mainAt, subAt}
+use Rattle.line_laying.specs.Order.{Has, nearness, at, NoTies, mainRow, subRow}
 use Rattle.bg_map.specs.declared.BgParams.{BgParams}
 use Rattle.bg_map.specs.Source.{sourceColumn, sourceLine}
 use Rattle.bg_map.specs.Map.{entryAt}
@@ -191,15 +191,15 @@ module _ (s : Scene) (y : ℕ) where
   only-sub k x e = and-eq-true-iff (bgModeOf mode k .present) (bitOf (s .regs .ts) k) .0 (and-eq-true-iff _ _ .0 e .0) .0
 
   -- No two candidates at a pixel of the main screen tie, whatever the mode; nor on the sub screen.
-  pub no-ties-on-main : (x : ℕ) → NoTies (mainAt (layerShown s) (layerPixel s y) x)
+  pub no-ties-on-main : (x : ℕ) → NoTies (at (mainRow (layerShown s) (layerPixel s y)) x)
   no-ties-on-main = no-ties onMain only-main
 
-  pub no-ties-on-sub : (x : ℕ) → NoTies (subAt (layerShown s) (layerPixel s y) x)
+  pub no-ties-on-sub : (x : ℕ) → NoTies (at (subRow (layerShown s) (layerPixel s y)) x)
   no-ties-on-sub = no-ties onSub only-sub
 
   -- and a layer above 4 has none
-  pub five-on-main : (x k : ℕ) → Has (mainAt (layerShown s) (layerPixel s y) x) k → k < 5
+  pub five-on-main : (x k : ℕ) → Has (at (mainRow (layerShown s) (layerPixel s y)) x) k → k < 5
   five-on-main = below onMain only-main
 
-  pub five-on-sub : (x k : ℕ) → Has (subAt (layerShown s) (layerPixel s y) x) k → k < 5
+  pub five-on-sub : (x k : ℕ) → Has (at (subRow (layerShown s) (layerPixel s y)) x) k → k < 5
   five-on-sub = below onSub only-sub
