@@ -31,6 +31,7 @@ unfoldable pub lastOf : List Drawing → ℕ → List ℕ → List ℕ
 lastOf [] y held = held
 lastOf (d ∷ ds) y held = lastOf ds y (cond (eqb (d .row) y) (bytesOf d) held)
 
+-- they are rows of a picture
 abbrev pub Rows : List Drawing → Type 0
 Rows ds = Each (λ d. d .row < 224) ds
 
@@ -38,11 +39,12 @@ Rows ds = Each (λ d. d .row < 224) ds
 abbrev pub DifferentRows : List Drawing → Type 0
 DifferentRows ds = (d e : Drawing) → List·Memᴰ d ds → List·Memᴰ e ds → d .row ≡ e .row → d ≡ e
 
+-- each of ds is among es
 abbrev pub Within : List Drawing → List Drawing → Type 0
 Within ds es = (d : Drawing) → List·Memᴰ d ds → List·Memᴰ d es
 
--- The same of calls of `render_into_picture` with any drawings ds: each takes the picture that the one before left, and is known
--- by its contract alone.
+-- Calls of `render_into_picture` with any drawings ds, from one picture to another: each takes the picture that the one before
+-- left, and is known by its contract alone.
 pub data DrawCalls : List ℕ → List Drawing → List ℕ → Type 0 where
   none : {p : List ℕ} → DrawCalls p [] p
   call : {p q : List ℕ} {d : Drawing} {ds : List Drawing} (v : Verdict) (after : List ℕ) →

@@ -20,8 +20,8 @@ module _ (s : Scene) (y : ℕ) where
   abbrev pub linesAfter : List ℕ → Lines
   linesAfter ks = layAll (layerShown s) (layerPixel s y) ks (startLines s)
 
-  -- The same of calls of `render_layer` with any numbers ks: each takes the lines that the one before left, and is known by its
-  -- contract alone.
+  -- calls of `render_layer` with any numbers ks, from lines to lines: each takes the lines that the one before left, and is known
+  -- by its contract alone
   pub data LayerCalls : Lines → List ℕ → Lines → Type 0 where
     none : {l : Lines} → LayerCalls l [] l
     call : {l m : Lines} {k : ℕ} {ks : List ℕ} (a : LinesAnswer) → linesMean a ≡ layerOutcome s y k l →

@@ -1,8 +1,7 @@
 -- Which bits of the registers are a background's own, and which it shares with others.
-use Prim.Native.Nat.{ℕ, _*_, _/_, _%_, _^_, _<_}
+use Prim.Native.Nat.{ℕ, _*_, _/_, _%_, _^_}
 use mathlib.Core.Path.{_≡_}
 use mathlib.Core.Bool.{Bool, false, _&&_}
-use mathlib.Core.List.{List, map}
 use lib.ListN.{getD}
 use Rattle.registers.specs.declared.PPURegisters.{PPURegisters}
 use Rattle.registers.specs.Bits.{bitOf, nibbleOf}
@@ -10,7 +9,6 @@ use Rattle.registers.specs.Screen.{modeOf}
 use Rattle.registers_bg.specs.Backgrounds.{scrollOf, tile16Of}
 use Rattle.registers_mosaic.specs.Mosaic.{mosaicOn}
 use Rattle.bg_modes.specs.Modes.{bgModeOf}
-use Rattle.registers.specs.Scene.{Scene, scene}
 
 -- background b's own register bits
 pub record Own : Type 0 where
@@ -105,11 +103,3 @@ litBy r lights b = bgModeOf (r .bgmode) b .present && bitOf lights b
 
 abbrev pub Unlit : PPURegisters → ℕ → Type 0
 Unlit r b = (litBy r (r .tm) b ≡ false) × (litBy r (r .ts) b ≡ false)
-
-module _ (b : ℕ) (r q : PPURegisters) (shared : sharedOf r ≡ sharedOf q)
-    (others : (k : ℕ) → k < 4 → (k ≡ b → ⊥) → ownOf r k ≡ ownOf q k) (unlit : Unlit r b) (v g oam : List ℕ) (y : ℕ) where
-  abbrev pub one : Scene
-  one = scene r v g oam
-
-  abbrev pub two : Scene
-  two = scene q v g oam

@@ -1,5 +1,5 @@
--- Each call does and says what the machine does and says, so that whoever makes a sequence of calls has before him a machine of
--- one memory, one address and one latch.
+-- Each call does and says what the machine does and says, so a sequence of calls is the run of a machine of one memory, one
+-- address and one latch.
 use mathlib.Core.Path.{_≡_, refl, ap, ap₂, _∙_}
 use mathlib.Core.List.{List, _∷_}
 use Rattle.base_lists.specs.Runs.{run, replies}

@@ -40,7 +40,8 @@ use Rattle.row_composite.specs.Composite.{colourAt, rowByteAt, blackRow, rowByt
 use Rattle.row_layers.specs.Layers.{layerShown, layerPixel, startLines}
 use Rattle.row_layers.specs.theorems.Numbers.{shown-low, pixel-low, shown-four, pixel-four}
 use Rattle.row_renderer.specs.Renderer.{sceneLines, sceneRow}
-use Rattle.row_renderer.specs.Unlit.{ownOf, Shared, sharedOf, litBy, Unlit, one, two}
+use Rattle.registers.specs.Scene.{Scene, scene}
+use Rattle.row_renderer.specs.Unlit.{ownOf, Shared, sharedOf, litBy, Unlit}
 
 -- the number of a background's layer is its own
 number-back : (k : ℕ) → k < 4 → backgroundOf (layerOf k) ≡ k
@@ -213,8 +214,14 @@ module _ (shown shown′ : ℕ → Shown) (pixel pixel′ : ℕ → ℕ → Cand
 
 module _ (b : ℕ) (r q : PPURegisters) (shared : sharedOf r ≡ sharedOf q)
     (others : (k : ℕ) → k < 4 → (k ≡ b → ⊥) → ownOf r k ≡ ownOf q k) (unlit : Unlit r b) (v g oam : List ℕ) (y : ℕ) where
+  abbrev one : Scene
+  one = scene r v g oam
+
+  abbrev two : Scene
+  two = scene q v g oam
+
   abbrev AlikeHere : ℕ → Type 0
-  AlikeHere k = Alike (layerShown (one b r q shared others unlit v g oam y)) (layerShown (two b r q shared others unlit v g oam y)) (layerPixel (one b r q shared others unlit v g oam y) y) (layerPixel (two b r q shared others unlit v g oam y) y) k
+  AlikeHere k = Alike (layerShown one) (layerShown two) (layerPixel one y) (layerPixel two y) k
 
   -- the unlit one
   off : (t : PPURegisters) (k : ℕ) → Unlit t k → Dark (background.bgShownBy t (paramsOf t k))
@@ -230,28 +237,28 @@ module _ (b : ℕ) (r q : PPURegisters) (shared : sharedOf r ≡ sharedOf q)
           let main : litBy r (r .tm) k ≡ litBy q (q .tm) k = λ i. same-mode r q shared k i .present && bitOf (shared i .tm) k in
           let sub : litBy r (r .ts) k ≡ litBy q (q .ts) k = λ i. same-mode r q shared k i .present && bitOf (shared i .ts) k in
           dark
-          (subst Dark (shown-low (one b r q shared others unlit v g oam y) k h) (off r k u))
-          (subst Dark (shown-low (two b r q shared others unlit v g oam y) k h) (off q k (sym main ∙ u .0, sym sub ∙ u .1)))
+          (subst Dark (shown-low one k h) (off r k u))
+          (subst Dark (shown-low two k h) (off q k (sym main ∙ u .0, sym sub ∙ u .1)))
       by-test false d =
           let o = others k h (eqb-false k b d) in
           same
-          (sym (shown-low (one b r q shared others unlit v g oam y) k h) ∙ (same-shown r q shared k o h ∙ shown-low (two b r q shared others unlit v g oam y) k h))
-          (sym (pixel-low (one b r q shared others unlit v g oam y) y k h) ∙ ((λ i x. same-pixel r q shared k o v g y x i) ∙ pixel-low (two b r q shared others unlit v g oam y) y k h))
+          (sym (shown-low one k h) ∙ (same-shown r q shared k o h ∙ shown-low two k h))
+          (sym (pixel-low one y k h) ∙ ((λ i x. same-pixel r q shared k o v g y x i) ∙ pixel-low two y k h))
 
   alike-sprites : AlikeHere 4
   alike-sprites =
       same
-      (sym (shown-four (one b r q shared others unlit v g oam y) 4 refl) ∙ (same-sprites-shown r q shared ∙ shown-four (two b r q shared others unlit v g oam y) 4 refl))
-      (sym (pixel-four (one b r q shared others unlit v g oam y) y 4 refl) ∙ ((λ i x. same-sprites r q shared v g oam y x i) ∙ pixel-four (two b r q shared others unlit v g oam y) y 4 refl))
+      (sym (shown-four one 4 refl) ∙ (same-sprites-shown r q shared ∙ shown-four two 4 refl))
+      (sym (pixel-four one y 4 refl) ∙ ((λ i x. same-sprites r q shared v g oam y x i) ∙ pixel-four two y 4 refl))
 
-  same-lines : sceneLines (one b r q shared others unlit v g oam y) y ≡ sceneLines (two b r q shared others unlit v g oam y) y
+  same-lines : sceneLines one y ≡ sceneLines two y
   same-lines =
-      alike-lines (layerShown (one b r q shared others unlit v g oam y)) (layerShown (two b r q shared others unlit v g oam y)) (layerPixel (one b r q shared others unlit v g oam y) y) (layerPixel (two b r q shared others unlit v g oam y) y) (0 ∷ 1 ∷ 2 ∷ 3 ∷ 4 ∷ [])
+      alike-lines (layerShown one) (layerShown two) (layerPixel one y) (layerPixel two y) (0 ∷ 1 ∷ 2 ∷ 3 ∷ 4 ∷ [])
       (alike 0 (omega arith), (alike 1 (omega arith), (alike 2 (omega arith), (alike 3 (omega arith), (alike-sprites, tt)))))
-      (startLines (one b r q shared others unlit v g oam y)) (length-backdrop (getD g 0 0)) (length-backdrop (r .coldata))
-      ∙ (λ i. layAll (layerShown (two b r q shared others unlit v g oam y)) (layerPixel (two b r q shared others unlit v g oam y) y) (0 ∷ 1 ∷ 2 ∷ 3 ∷ 4 ∷ []) (backdropLines (getD g 0 0) (shared i .coldata)))
+      (startLines one) (length-backdrop (getD g 0 0)) (length-backdrop (r .coldata))
+      ∙ (λ i. layAll (layerShown two) (layerPixel two y) (0 ∷ 1 ∷ 2 ∷ 3 ∷ 4 ∷ []) (backdropLines (getD g 0 0) (shared i .coldata)))
 
   -- Where background b is lit on neither screen, its own bits never change the row.
-  pub unlit-never-shows : sceneRow (one b r q shared others unlit v g oam y) y ≡ sceneRow (two b r q shared others unlit v g oam y) y
+  pub unlit-never-shows : sceneRow (scene r v g oam) y ≡ sceneRow (scene q v g oam) y
   unfolding sceneRow
   unlit-never-shows = same-bytes r q shared same-lines
