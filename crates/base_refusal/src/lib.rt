@@ -25,6 +25,8 @@ pub enum Refusal {
     SceneLonger,
     // 11: scene field byte above 1.
     FieldByte,
+    // 12: a salvaged scene's output length wrong.
+    Output,
 }
 
 impl Refusal {
@@ -44,6 +46,7 @@ impl Refusal {
             Refusal::SceneCut => 9,
             Refusal::SceneLonger => 10,
             Refusal::FieldByte => 11,
+            Refusal::Output => 12,
         }
     }
 }

@@ -24,11 +24,11 @@ pub const COLOUR_BYTES: usize = 512;
 pub const VRAM_BYTES: usize = 65536;
 
 // The count whose four bytes begin at byte k.
-fn count_at(bytes: &[u8], k: usize) -> usize
+pub fn count_at(bytes: &[u8], k: usize) -> u32
     requires { ⌜ k + 4 ≤ length (now bytes) ⌝ }
     ensures { λ r. ⌜ r ≡ countAt (now (bytes .entry)) k ⌝ }
 {
-    word_at(bytes, k) as usize + word_at(bytes, k + 2) as usize * 65536
+    word_at(bytes, k) as u32 + word_at(bytes, k + 2) as u32 * 65536
 }
 
 // What is said of a section of n bytes by what was read of its count.
@@ -38,7 +38,7 @@ pub fn count_tested(count: &[u8], n: usize) -> Verdict
     if count.len() < 4 {
         return Verdict::Refused(Refusal::SceneCut);
     }
-    if count_at(count, 0) != n {
+    if count_at(count, 0) as usize != n {
         return Verdict::Refused(Refusal::SectionCount);
     }
     Verdict::Fine
@@ -93,7 +93,7 @@ fn section(scene: &[u8], k: usize, n: usize) -> Verdict
     if scene.len() < k + 4 {
         return Verdict::Refused(Refusal::SceneCut);
     }
-    if count_at(scene, k) != n {
+    if count_at(scene, k) as usize != n {
         return Verdict::Refused(Refusal::SectionCount);
     }
     if scene.len() < k + 4 + n {

@@ -15,6 +15,15 @@ module _ {A : Type 0} (P : A → Type 0) where
   each-append [] m h k = k
   each-append (a ∷ l) m h k = (h .0, each-append l m (h .1) k)
 
+  -- and the other way
+  pub each-first : (l m : List A) → Each P (l ++ m) → Each P l
+  each-first [] m h = tt
+  each-first (a ∷ l) m h = (h .0, each-first l m (h .1))
+
+  pub each-then : (l m : List A) → Each P (l ++ m) → Each P m
+  each-then [] m h = h
+  each-then (a ∷ l) m h = each-then l m (h .1)
+
   pub each-tab : (n : ℕ) (f : ℕ → A) → ((i : ℕ) → i < n → P (f i)) → Each P (tab n f)
   unfolding tab
   each-tab zero f h = tt
@@ -24,6 +33,12 @@ module _ {A : Type 0} (P : A → Type 0) where
   each-take zero l h = tt
   each-take (suc n) [] h = tt
   each-take (suc n) (a ∷ l) h = (h .0, each-take n l (h .1))
+
+  -- what is read is an element or the default
+  pub each-getD : (l : List A) → Each P l → (d : A) → P d → (i : ℕ) → P (getD l i d)
+  each-getD [] h d p i = p
+  each-getD (a ∷ l) h d p zero = h .0
+  each-getD (a ∷ l) h d p (suc i) = each-getD l (h .1) d p i
 
   module _ (test : A → Bool) where
     kept : (t : Bool) (a : A) (l : List A) → P a → Each P l → Each P (cond t (a ∷ l) l)

@@ -4,7 +4,7 @@ use mathlib.Core.Path.{_≡_, refl, sym, ap, _∙_}
 use mathlib.Core.Bool.{cond}
 use lib.Dec.{eqb}
 use Rattle.base_refusal.specs.declared.Refusal.{Refusal}
-use Rattle.base_refusal.specs.declared.Refusal.the-variants.{Row, Vram, Colour, Oam, Lent, Counter, Argument, SectionCount, SceneCut, SceneLonger, FieldByte}
+use Rattle.base_refusal.specs.declared.Refusal.the-variants.{Row, Vram, Colour, Oam, Lent, Counter, Argument, SectionCount, SceneCut, SceneLonger, FieldByte, Output}
 use Rattle.base_refusal.specs.Numbers.{numberOf}
 
 -- the refusal of each number, by the same table read backwards
@@ -19,7 +19,8 @@ refusalOf n =
     (cond (eqb n 7) Argument
     (cond (eqb n 8) SectionCount
     (cond (eqb n 9) SceneCut
-    (cond (eqb n 10) SceneLonger FieldByte)))))))))
+    (cond (eqb n 10) SceneLonger
+    (cond (eqb n 11) FieldByte Output))))))))))
 
 back : (r : Refusal) → refusalOf (numberOf r) ≡ r
 unfolding refusalOf
@@ -34,6 +35,7 @@ back SectionCount = refl
 back SceneCut = refl
 back SceneLonger = refl
 back FieldByte = refl
+back Output = refl
 
 -- no two refusals share a number, so a number settles the refusal
 pub one-number : (a b : Refusal) → numberOf a ≡ numberOf b → a ≡ b

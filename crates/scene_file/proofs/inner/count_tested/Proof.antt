@@ -18,4 +18,4 @@ unfolding countTests
 returns-3 c = simp (le-leb _ _ (c .before .before .if1 .left), eq-eqb _ _ (sym (c .before .count-at .ensures) ∙ c .if2 .left))
 
 pub count-tested-spec : {M : Type 1} → statement M
-count-tested-spec = tie.close (tie.spec returns (λ c κs. search needs) returns-2 returns-3)
+count-tested-spec = tie.close (tie.spec returns (λ c κs. search needs) (λ c. search needs) returns-2 returns-3)

@@ -19,4 +19,4 @@ returns-4 c = let d = c .before in (simp (le-leb _ _ (d .before .before .if1 .le
 pub section-spec : {M : Type 1} → statement M
 section-spec =
     tie.close
-    (tie.spec (λ c. search needs) returns (λ c κs. search needs) returns-2 (λ c. search needs) (λ c. search needs) returns-3 returns-4)
+    (tie.spec (λ c. search needs) returns (λ c κs. search needs) (λ c. search needs) returns-2 (λ c. search needs) (λ c. search needs) returns-3 returns-4)
