@@ -167,8 +167,8 @@ const MOST: [u64; 112] = [
     769,
     172033,
     172033,
-    0,
-    0,
+    70000,
+    66657,
     65535,
     255,
     0,
@@ -257,8 +257,8 @@ pub(crate) fn cell_of(verb: usize, s: &[u8], from: usize, to: usize) -> usize {
             named(PARAMS, k, 15)
         }
         2 => {
-            let k = place(b"vram cgram oam row picture second", s, from, to);
-            named(LENT, k, 6)
+            let k = place(b"vram cgram oam row picture second file out", s, from, to);
+            named(LENT, k, 8)
         }
         3 => {
             let k = place(b"address latch", s, from, to);
@@ -293,6 +293,8 @@ fn right(cells: [u64; 112]) -> [u64; 112] {
     c[59] = 768;
     c[60] = 172032;
     c[61] = 172032;
+    c[62] = 66656;
+    c[63] = 66656;
     c
 }
 

@@ -1,6 +1,7 @@
 // Reads a script of cases from the standard input and writes it out again, each answer beside the
 // statement that asked. What a script may say stands in docs/ASKING.md.
 mod cells;
+mod dump;
 mod lay;
 mod memory;
 mod own;
@@ -71,6 +72,7 @@ fn answer(lines: Lines, vram: &[u16], cgram: &[u16], oam: &[u8], q: Statement) -
     judge(q);
     own::ask(verb, n, c);
     row::ask(vram, cgram, oam, verb, n, c);
+    dump::ask(q);
     lay::ask(lines, vram, cgram, oam, verb, n, c)
 }
 

@@ -58,7 +58,7 @@ fn written(before: u16, i: usize, q: Statement) -> u16 {
     before
 }
 
-fn written_byte(before: u8, i: usize, q: Statement) -> u8 {
+pub(crate) fn written_byte(before: u8, i: usize, q: Statement) -> u8 {
     (written(before as u16, i, q) % 256) as u8
 }
 

@@ -22,18 +22,19 @@ pub(crate) struct Statement {
 const NEW: usize = 4;
 
 // An unknown verb, and no verb.
-const UNKNOWN: usize = 51;
+const UNKNOWN: usize = 52;
 
-const NOTHING: usize = 52;
+const NOTHING: usize = 53;
 
 // The verb of a statement: settings from 0 on, memories from 5, port and flags from 9, lines from 16,
-// what needs no memory from 25 (by registers) and 35 (by numbers), what is drawn from memory from 41.
+// what needs no memory from 25 (by registers) and 35 (by numbers), what is drawn from memory from 41,
+// and then what is made of a file.
 fn verb_of(s: &[u8], from: usize, to: usize) -> usize {
     if from >= to {
         return NOTHING;
     }
     place(
-        b"reg bg lend port new vram cgram oam sprite port-new port-address port-write port-read flags-new flags-keep flags-clear lines main sub backdrops bg-line sprites layer composite deposit layer-bits windows window background mosaic sprite-size bg-mode bg-params bg-lit offset brightness direct-color color-math tile-words map-entry layer-of tile-pixel get-sprite choose sprite-line sprite-candidates bg-candidates layer-candidates scanline picture picture-row",
+        b"reg bg lend port new vram cgram oam sprite port-new port-address port-write port-read flags-new flags-keep flags-clear lines main sub backdrops bg-line sprites layer composite deposit layer-bits windows window background mosaic sprite-size bg-mode bg-params bg-lit offset brightness direct-color color-math tile-words map-entry layer-of tile-pixel get-sprite choose sprite-line sprite-candidates bg-candidates layer-candidates scanline picture picture-row salvage",
         s,
         from,
         to,
