@@ -1,25 +1,12 @@
 //! Damaged scenes, given to the frame program and to check_scene, and held to the oracle's own reader and
 //! to the Rust's plate.
 
+use crate::families::{Family, Sound, any_scene, changed, drawn, fed, with, wrong_byte};
 use crate::frame;
-use crate::generator::Generator;
 use crate::kinds::{KINDS, Kind, scene};
-use crate::program::{Feed, Input, Program, found, run, two_at_a_time};
+use crate::program::{Feed, Input, Program, found, run};
 use crate::scene::{COUNTER, COUNTS, FIELD, SIZE, read, start};
 use std::collections::BTreeMap;
-
-/// What damages are made of: a sound scene, and the seed of everything that is drawn.
-struct Sound {
-    bytes: Vec<u8>,
-    seed: u32,
-}
-
-/// Inputs of one kind: how many, and the one of a number.
-struct Family {
-    name: &'static str,
-    inputs: usize,
-    make: fn(&Sound, usize) -> Input,
-}
 
 const FAMILIES: [Family; 16] = [
     Family {
@@ -35,11 +22,7 @@ const FAMILIES: [Family; 16] = [
     Family {
         name: "each byte of each count",
         inputs: 16 * 255,
-        make: |sound, k| {
-            let at = start(k / 255 / 4) + k / 255 % 4;
-            let value = sound.bytes[at].wrapping_add(1 + (k % 255) as u8);
-            changed(sound, &[(at, value)])
-        },
+        make: wrong_byte,
     },
     Family {
         name: "counts of other values",
@@ -153,32 +136,6 @@ const FAMILIES: [Family; 16] = [
 const AFTER: [usize; 16] = [
     1, 2, 3, 4, 5, 8, 48, 255, 256, 544, 4096, 65_535, 65_536, SIZE, 70_000, 1_000_000,
 ];
-
-fn drawn(sound: &Sound, k: usize) -> Generator {
-    let x = (sound.seed ^ k as u32).wrapping_mul(0x85eb_ca6b);
-    Generator::new(x ^ x >> 15)
-}
-
-/// A sound scene of one of the kinds.
-fn any_scene(sound: &Sound, k: usize) -> Vec<u8> {
-    let seed = sound.seed.wrapping_add((k / KINDS.len()) as u32);
-    scene(KINDS[k % KINDS.len()].0, seed).bytes()
-}
-
-fn with(sound: &Sound, damage: impl FnOnce(&mut Vec<u8>)) -> Input {
-    let mut bytes = sound.bytes.clone();
-    damage(&mut bytes);
-    Input::whole(bytes)
-}
-
-/// Some bytes of other values.
-fn changed(sound: &Sound, places: &[(usize, u8)]) -> Input {
-    with(sound, |bytes| {
-        for (at, value) in places {
-            bytes[*at] = *value;
-        }
-    })
-}
 
 /// The values that a count is given.
 const VALUES: usize = 12;
@@ -325,26 +282,16 @@ pub fn all(programs: &str, seed: u32, most: usize) -> Result<(), String> {
     };
     let mut all = BTreeMap::new();
     for family in &FAMILIES {
-        let fed = family.inputs.min(most);
-        let answers = two_at_a_time(fed, |n| {
-            let k = n * family.inputs / fed + n % (family.inputs / fed);
-            let input = (family.make)(&sound, k);
-            one(&frame, &check, &input).map_err(|text| {
-                let kept = std::env::temp_dir().join(format!("damage-{}", std::process::id()));
-                let _ = std::fs::write(&kept, &input.bytes);
-                format!(
-                    "{}, input {k}, kept in {}: {text}",
-                    family.name,
-                    kept.display()
-                )
-            })
+        let answers = fed(family, &sound, most, "damage", |input| {
+            one(&frame, &check, input)
         })?;
+        let inputs = answers.len();
         let mut counts = BTreeMap::new();
         for number in answers {
             *counts.entry(number).or_insert(0) += 1;
             *all.entry(number).or_insert(0) += 1;
         }
-        println!("{}: {fed} inputs: {}", family.name, told(&counts));
+        println!("{}: {inputs} inputs: {}", family.name, told(&counts));
     }
     let inputs: usize = all.values().sum();
     println!(

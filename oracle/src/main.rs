@@ -6,6 +6,8 @@ mod choice;
 mod colour;
 mod compare;
 mod damage;
+mod dumps;
+mod families;
 mod frame;
 mod generator;
 mod kinds;
@@ -17,6 +19,7 @@ mod port;
 mod program;
 mod registers;
 mod rows;
+mod salvage;
 mod scene;
 mod screen;
 mod sprites;
@@ -33,8 +36,10 @@ const USAGE: &str = "usage: oracle colour | tiles | registers | oam | outside
                                  interlace, blank, picture
        oracle frame              what the frame program writes for the scene on standard input
        oracle often              what draw_often writes for the count and the scene on standard input
+       oracle salvage-lines      what salvage_lines writes for the file on standard input
+       oracle salvage-scene      what salvage_scene writes for it
        oracle compare PROGRAMS SCENES SEED
-       oracle damage PROGRAMS SEED [MOST]
+       oracle damage | salvage PROGRAMS SEED [MOST]
 PROGRAMS is a folder of programs, or a script that runs the program that it is given the name of.";
 
 /// All of the standard input.
@@ -42,6 +47,11 @@ fn given() -> Result<Vec<u8>, String> {
     let mut bytes = Vec::new();
     let read = io::stdin().read_to_end(&mut bytes);
     read.map(|_| bytes).map_err(|e| e.to_string())
+}
+
+/// The salvage of the standard input.
+fn salvaged() -> Result<salvage::Salvaged, String> {
+    salvage::read(io::stdin()).map_err(|e| e.to_string())
 }
 
 /// What a command writes. None for words that are no command, a failure's text for one that failed.
@@ -61,18 +71,24 @@ fn answer(words: &[&str]) -> Option<Result<Vec<u8>, String>> {
             let digest = given().and_then(|bytes| often::digest(&bytes));
             return Some(digest.map(String::into_bytes));
         }
+        ["salvage-lines"] => return Some(salvaged().map(|done| done.text().into_bytes())),
+        ["salvage-scene"] => return Some(salvaged().map(|done| done.bytes)),
         ["compare", programs, scenes, seed] => {
             let scenes: NonZero<u32> = scenes.parse().ok()?;
             let compared = compare::all(programs, scenes.get(), seed.parse().ok()?);
             return Some(compared.map(|()| Vec::new()));
         }
-        ["damage", programs, seed, ref most @ ..] => {
+        [word @ ("damage" | "salvage"), programs, seed, ref most @ ..] => {
+            let seed = seed.parse().ok()?;
             let most = match *most {
-                [] => usize::MAX,
-                [most] => most.parse::<NonZero<usize>>().ok()?.get(),
+                [] => None,
+                [most] => Some(most.parse::<NonZero<usize>>().ok()?.get()),
                 _ => return None,
             };
-            let fed = damage::all(programs, seed.parse().ok()?, most);
+            let fed = match word {
+                "damage" => damage::all(programs, seed, most.unwrap_or(usize::MAX)),
+                _ => dumps::all(programs, seed, most),
+            };
             return Some(fed.map(|()| Vec::new()));
         }
         [name, ref rest @ ..] => {

@@ -1,9 +1,10 @@
 //! Runs of a program: what it is given on its standard input, and what it answers.
 
-use std::fs::File;
-use std::io::{self, Write};
+use std::env::temp_dir;
+use std::fs::{File, remove_file};
+use std::io::{self, Seek, Write};
 use std::path::{Path, PathBuf};
-use std::process::{ChildStdin, Command, Stdio};
+use std::process::{ChildStdin, Command, Stdio, id};
 use std::sync::Mutex;
 use std::sync::atomic::{AtomicUsize, Ordering};
 use std::thread;
@@ -17,6 +18,8 @@ pub enum Feed {
     Pieces(Vec<usize>),
     /// From a file, whose bytes are not looked at.
     File(&'static str),
+    /// From a file that is made of them, with zeros after them up to this length.
+    Stored(u64),
 }
 
 pub struct Input {
@@ -32,8 +35,43 @@ impl Input {
         }
     }
 
-    /// Writes the input. A program may stop reading, which is no fault.
-    fn write(&self, mut pipe: ChildStdin) {
+    /// The same bytes, from a file.
+    pub fn stored(bytes: Vec<u8>) -> Input {
+        let feed = Feed::Stored(bytes.len() as u64);
+        Input { bytes, feed }
+    }
+
+    /// How long it is.
+    pub fn length(&self) -> u64 {
+        match self.feed {
+            Feed::Stored(length) => length,
+            _ => self.bytes.len() as u64,
+        }
+    }
+
+    /// Writes the input to a file of this name, and hands that back at its start.
+    pub fn keep(&self, name: &Path) -> io::Result<File> {
+        let mut options = File::options();
+        options.read(true).write(true).create(true).truncate(true);
+        let mut file = options.open(name)?;
+        file.write_all(&self.bytes)?;
+        file.set_len(self.length())?;
+        file.rewind()?;
+        Ok(file)
+    }
+
+    /// A file of the input, which is gone when it is closed.
+    fn file(&self) -> io::Result<File> {
+        static NEXT: AtomicUsize = AtomicUsize::new(0);
+        let next = NEXT.fetch_add(1, Ordering::Relaxed);
+        let name = temp_dir().join(format!("input-{}-{next}", id()));
+        let file = self.keep(&name);
+        let _ = remove_file(&name);
+        file
+    }
+
+    /// Writes the input. False where the program has stopped reading.
+    fn write(&self, mut pipe: ChildStdin) -> bool {
         let mut rest = &self.bytes[..];
         let mut sizes = match &self.feed {
             Feed::Pieces(sizes) => sizes.iter().cycle(),
@@ -45,7 +83,7 @@ impl Input {
                 .map_or(rest.len(), |size| rest.len().min(*size));
             let (piece, after) = rest.split_at(size);
             if pipe.write_all(piece).is_err() {
-                return;
+                return false;
             }
             rest = after;
             match size {
@@ -53,6 +91,7 @@ impl Input {
                 _ => thread::yield_now(),
             }
         }
+        true
     }
 }
 
@@ -75,13 +114,34 @@ pub fn found(programs: &str, name: &str) -> Result<Program, String> {
     }
 }
 
-/// What a program writes. Any other status than 0, and anything on its standard error, is a failure.
+/// What a program writes. Any other status than 0, and anything on its standard error, is a failure. It may
+/// stop reading before its input's end.
 pub fn run(program: &Program, input: &Input) -> Result<Vec<u8>, String> {
+    ran(program, input).map(|(written, _)| written)
+}
+
+/// What a program writes that must read its input to the end. Where the input comes from a file, this sees
+/// the last byte that was read; where it comes by a pipe, only that more stayed unread than a pipe holds.
+pub fn run_to_end(program: &Program, input: &Input) -> Result<Vec<u8>, String> {
+    let name = program.file.display();
+    match ran(program, input)? {
+        (written, true) => Ok(written),
+        _ => Err(format!("{name}: it does not read its input to the end")),
+    }
+}
+
+/// What a program writes, and whether it was seen to leave nothing of its input unread.
+fn ran(program: &Program, input: &Input) -> Result<(Vec<u8>, bool), String> {
     let name = program.file.display();
     let failed = |e: io::Error| format!("{name}: {e}");
-    let stdin = match input.feed {
-        Feed::File(name) => File::open(name).map_err(failed)?.into(),
-        _ => Stdio::piped(),
+    let file = match input.feed {
+        Feed::File(name) => Some(File::open(name).map_err(failed)?),
+        Feed::Stored(_) => Some(input.file().map_err(failed)?),
+        _ => None,
+    };
+    let stdin = match &file {
+        Some(file) => file.try_clone().map_err(failed)?.into(),
+        None => Stdio::piped(),
     };
     let mut child = Command::new(&program.file)
         .args(&program.word)
@@ -91,11 +151,10 @@ pub fn run(program: &Program, input: &Input) -> Result<Vec<u8>, String> {
         .spawn()
         .map_err(failed)?;
     let pipe = child.stdin.take();
-    let done = thread::scope(|scope| {
-        if let Some(pipe) = pipe {
-            scope.spawn(|| input.write(pipe));
-        }
-        child.wait_with_output()
+    let (done, written) = thread::scope(|scope| {
+        let writer = pipe.map(|pipe| scope.spawn(|| input.write(pipe)));
+        let done = child.wait_with_output();
+        (done, writer.is_none_or(|writer| writer.join().unwrap()))
     });
     let done = done.map_err(failed)?;
     let said = String::from_utf8_lossy(&done.stderr);
@@ -106,15 +165,21 @@ pub fn run(program: &Program, input: &Input) -> Result<Vec<u8>, String> {
     if !done.stderr.is_empty() {
         return Err(format!("{name}: on its standard error: {said}"));
     }
-    Ok(done.stdout)
+    let read = match (file, &input.feed) {
+        (Some(mut file), Feed::Stored(length)) => {
+            file.stream_position().map_err(failed)? == *length
+        }
+        _ => written,
+    };
+    Ok((done.stdout, read))
 }
 
 /// Does each job below n, two at a time, and hands back what they found, in no order. The first failure
 /// ends it.
-pub fn two_at_a_time<T: Send>(
+pub fn two_at_a_time<T: Send, E: Send>(
     n: usize,
-    job: impl Fn(usize) -> Result<T, String> + Sync,
-) -> Result<Vec<T>, String> {
+    job: impl Fn(usize) -> Result<T, E> + Sync,
+) -> Result<Vec<T>, E> {
     let next = AtomicUsize::new(0);
     let failure = Mutex::new(None);
     let work = || {
@@ -126,9 +191,9 @@ pub fn two_at_a_time<T: Send>(
             }
             match job(k) {
                 Ok(one) => found.push(one),
-                Err(text) => {
+                Err(one) => {
                     next.store(n, Ordering::Relaxed);
-                    failure.lock().unwrap().get_or_insert(text);
+                    failure.lock().unwrap().get_or_insert(one);
                 }
             }
         }
@@ -141,6 +206,6 @@ pub fn two_at_a_time<T: Send>(
     });
     match failure.into_inner().unwrap() {
         None => Ok(found),
-        Some(text) => Err(text),
+        Some(one) => Err(one),
     }
 }
