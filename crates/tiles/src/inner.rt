@@ -1,7 +1,7 @@
 // What the decoders stand on. VRAM is read in `word`, and nowhere else.
 use crate::BitDepth;
 ghost use mathlib.Core.Path.{_≡_};
-ghost use Prim.Native.Nat.{_^_, _<_};
+ghost use Prim.Native.Nat.{_^_, _<_, _≤_};
 ghost use Rattle.tiles.specs.Tiles.{vramWord, planeWord, twoBits, pairAt, indexOf, pairsOf, mirrored};
 
 // The words of VRAM.
@@ -39,33 +39,39 @@ pub fn plane_pair(vram: &[u16], base: usize, x: usize, y: usize, pair: usize) ->
     two_bits(plane_word(vram, base, y, pair), x)
 }
 
+// The colour index of pixel (x, y) over so many plane pairs, walked from the highest to the lowest.
+fn over_pairs(vram: &[u16], base: usize, x: usize, y: usize, pairs: usize) -> u8
+    requires { ⌜ (x < 8) × ((y < 8) × (pairs ≤ 4)) ⌝ }
+    ensures { λ r. ⌜ (r ≡ indexOf (now (vram .entry)) base x y pairs) × (r < 4 ^ pairs) ⌝ }
+{
+    let mut index: u8 = 0;
+    let mut pair = pairs;
+    while 0 < pair {
+        pair -= 1;
+        index = index * 4 + plane_pair(vram, base, x, y, pair);
+    }
+    index
+}
+
 pub fn decode_2bpp(vram: &[u16], base: usize, x: usize, y: usize) -> u8
     requires { ⌜ (x < 8) × (y < 8) ⌝ }
     ensures { λ r. ⌜ (r ≡ indexOf (now (vram .entry)) base x y 1) × (r < 4) ⌝ }
 {
-    plane_pair(vram, base, x, y, 0)
+    over_pairs(vram, base, x, y, 1)
 }
 
 pub fn decode_4bpp(vram: &[u16], base: usize, x: usize, y: usize) -> u8
     requires { ⌜ (x < 8) × (y < 8) ⌝ }
     ensures { λ r. ⌜ (r ≡ indexOf (now (vram .entry)) base x y 2) × (r < 16) ⌝ }
 {
-    let low = plane_pair(vram, base, x, y, 0);
-    let high = plane_pair(vram, base, x, y, 1);
-    low + 4 * high
+    over_pairs(vram, base, x, y, 2)
 }
 
 pub fn decode_8bpp(vram: &[u16], base: usize, x: usize, y: usize) -> u8
     requires { ⌜ (x < 8) × (y < 8) ⌝ }
     ensures { λ r. ⌜ (r ≡ indexOf (now (vram .entry)) base x y 4) × (r < 256) ⌝ }
 {
-    let mut index: u16 = 0;
-    let mut weight: u16 = 1;
-    for pair in 0..4 {
-        index += weight * plane_pair(vram, base, x, y, pair) as u16;
-        weight *= 4;
-    }
-    index as u8
+    over_pairs(vram, base, x, y, 4)
 }
 
 // The colour index of pixel (x, y) at a depth.
