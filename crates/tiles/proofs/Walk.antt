@@ -4,7 +4,7 @@ use mathlib.Core.Path.{_≡_}
 use mathlib.Core.List.{List}
 use native.Mathlib.Omega.{arith}
 use native.Mathlib.Numerals.{add-one}
-use native.Mathlib.Nat.{mul-le-mul-right, mul-comm, mul-assoc, mul-add, mul-zero, one-le-pow, pow-suc}
+use native.Mathlib.Nat.{mul-le-mul-right, mul-comm, mul-assoc, mul-add, one-le-pow, pow-suc}
 use lib.Dec.{lit<}
 use Rattle.tiles.specs.Tiles.{pairAt, indexOf}
 use Rattle.tiles.specs.theorems.PlanePairs.{index-more, index-small}
@@ -16,7 +16,7 @@ Left v base x y n k m = indexOf v base x y k + 4 ^ k * m ≡ indexOf v base x y 
 module _ (v : List ℕ) (base x y n : ℕ) where
   -- at the start all are left;
   pub none-walked : Left v base x y n n 0
-  none-walked = simp mul-zero (omega arith)
+  none-walked = omega arith
 
   -- a turn walks pair k;
   pub walk-more : (k m : ℕ) → Left v base x y n (k + 1) m → Left v base x y n k (m * 4 + pairAt v base x y k)

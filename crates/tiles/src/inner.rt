@@ -39,7 +39,7 @@ pub fn plane_pair(vram: &[u16], base: usize, x: usize, y: usize, pair: usize) ->
     two_bits(plane_word(vram, base, y, pair), x)
 }
 
-// The colour index of pixel (x, y) over so many plane pairs, walked from the highest to the lowest.
+// The colour index of pixel (x, y) over the first `pairs` plane pairs, walked from the highest to the lowest.
 fn over_pairs(vram: &[u16], base: usize, x: usize, y: usize, pairs: usize) -> u8
     requires { ⌜ (x < 8) × ((y < 8) × (pairs ≤ 4)) ⌝ }
     ensures { λ r. ⌜ (r ≡ indexOf (now (vram .entry)) base x y pairs) × (r < 4 ^ pairs) ⌝ }
