@@ -58,7 +58,7 @@ fn judge(q: Statement) {
 }
 
 // What a statement leaves: the numbers that have a name, both lines, and the place of the next one.
-#[derive(Drop)]
+#[derive(Clone, Copy)]
 struct Turn {
     kept: [u64; 112],
     lines: Lines,

@@ -4,7 +4,7 @@ use test_script::{NumberAnswer, Stop, number, place, seek};
 
 // The verb; the numbers that have no name, and how many they are; the named ones; where the statement
 // stops; whether there is more to read; and whether something in it was not understood.
-#[derive(Drop)]
+#[derive(Clone, Copy)]
 pub(crate) struct Statement {
     pub(crate) verb: usize,
     pub(crate) list: [u64; 16],

@@ -9,7 +9,7 @@ ghost use Rattle.base_refusal.specs.Verdicts.{verdict_means};
 use base_refusal::{Refusal, Verdict};
 
 // A line: the first `size` bytes of its text.
-#[derive(Drop)]
+#[derive(Clone, Copy)]
 pub struct Line {
     pub text: [u8; 11],
     pub size: usize,

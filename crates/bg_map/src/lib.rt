@@ -9,7 +9,7 @@ use line_pixels::{Layer, Priority};
 use tiles::BitDepth;
 
 // What a background's row is drawn from, beside the registers that all backgrounds share.
-#[derive(Drop)]
+#[derive(Clone, Copy)]
 pub struct BgParams {
     // Word address of the map.
     pub tilemap_base: u16,
@@ -37,7 +37,7 @@ pub struct BgParams {
 }
 
 // A map entry's fields.
-#[derive(Drop)]
+#[derive(Clone, Copy)]
 pub struct MapEntry {
     pub tile: u16,
     pub palette: u8,

@@ -15,7 +15,7 @@ use registers::constants::BACKGROUNDS;
 use tiles::BitDepth;
 
 // What a mode has of one background.
-#[derive(Drop)]
+#[derive(Clone, Copy)]
 pub struct BgMode {
     // Does the mode have it?
     pub present: bool,
@@ -27,13 +27,13 @@ pub struct BgMode {
     pub high: u8,
 }
 
-#[derive(Drop)]
+#[derive(Clone, Copy)]
 pub enum BgModeAnswer {
     Is(BgMode),
     Refused(Refusal),
 }
 
-#[derive(Drop)]
+#[derive(Clone, Copy)]
 pub enum ParamsAnswer {
     Is(BgParams),
     Refused(Refusal),

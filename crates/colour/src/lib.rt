@@ -9,14 +9,14 @@ ghost use Rattle.colour.specs.Answers.{rgb_means};
 use base_refusal::Refusal;
 
 // A colour of the picture, eight bits for each channel.
-#[derive(Drop)]
+#[derive(Clone, Copy)]
 pub struct Rgb {
     pub red: u8,
     pub green: u8,
     pub blue: u8,
 }
 
-#[derive(Drop)]
+#[derive(Clone, Copy)]
 pub enum RgbAnswer {
     Is(Rgb),
     Refused(Refusal),

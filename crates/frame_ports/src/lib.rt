@@ -3,7 +3,7 @@ pub mod inner;
 
 // What is done with lent bytes: they are filled from the scene, or handed on: to the plate, or as a
 // message that it could not be written.
-#[derive(Drop)]
+#[derive(Clone, Copy)]
 pub enum Way {
     Scene,
     Plate,

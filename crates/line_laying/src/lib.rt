@@ -10,7 +10,7 @@ use line_window::Window;
 
 // Where a layer is shown: the screens that light it (tm, ts), those that its window bars (tmw, tsw),
 // and the window.
-#[derive(Drop)]
+#[derive(Clone, Copy)]
 pub struct Shown {
     pub to_main: bool,
     pub to_sub: bool,
@@ -20,21 +20,21 @@ pub struct Shown {
 }
 
 // A layer's candidates at one pixel, on the main screen and on the sub screen.
-#[derive(Drop)]
+#[derive(Clone, Copy)]
 pub struct Candidates {
     pub main: Candidate,
     pub sub: Candidate,
 }
 
 // The answer of a call for a layer's candidates at a column.
-#[derive(Drop)]
+#[derive(Clone, Copy)]
 pub enum CandidatesAnswer {
     Is(Candidates),
     Refused(Refusal),
 }
 
 // The verdict on a call, and the lines that it leaves: on a refusal those that it was given.
-#[derive(Drop)]
+#[derive(Clone, Copy)]
 pub struct LinesAnswer {
     pub verdict: Verdict,
     pub lines: Lines,

@@ -12,7 +12,7 @@ use base_refusal::Refusal;
 use registers::constants::BACKGROUNDS;
 
 // The layer that a pixel came from.
-#[derive(Drop)]
+#[derive(Clone, Copy)]
 pub enum Layer {
     Backdrop,
     Bg1,
@@ -22,7 +22,7 @@ pub enum Layer {
     Obj,
 }
 
-#[derive(Drop)]
+#[derive(Clone, Copy)]
 pub enum LayerAnswer {
     Is(Layer),
     Refused(Refusal),
@@ -43,7 +43,7 @@ impl Layer {
 
 // How near a pixel is: the greater is in front. Its users see no number, so that it cannot pass
 // for a colour.
-#[derive(Drop)]
+#[derive(Clone, Copy)]
 pub struct Priority(u8);
 
 impl Priority {
@@ -74,7 +74,7 @@ impl Priority {
 
 // A pixel of a screen, main or sub, before colour math. The math mark is a sprite's with palette 4
 // or more.
-#[derive(Drop)]
+#[derive(Clone, Copy)]
 pub struct LinePixel {
     pub color: u16,
     pub z: Priority,
@@ -97,7 +97,7 @@ impl LinePixel {
 }
 
 // What a layer has at a pixel: the pixel, and whether it is opaque.
-#[derive(Drop)]
+#[derive(Clone, Copy)]
 pub struct Candidate {
     pub opaque: bool,
     pub pixel: LinePixel,
@@ -117,7 +117,7 @@ impl Candidate {
 }
 
 // The lines of both screens.
-#[derive(Drop)]
+#[derive(Clone, Copy)]
 pub struct Lines {
     pub main: [LinePixel; 256],
     pub sub: [LinePixel; 256],

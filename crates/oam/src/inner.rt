@@ -62,7 +62,7 @@ pub fn get_sprite(oam: &[u8], index: u8, objsel: u8) -> Sprite
 }
 
 // The two sizes of a setting of objsel.
-#[derive(Drop)]
+#[derive(Clone, Copy)]
 pub struct Sizes {
     pub small: SpriteSize,
     pub large: SpriteSize,

@@ -16,7 +16,7 @@ pub const OAM_SIZE: usize = 544;
 pub const SPRITES: u8 = 128;
 
 // A sprite as sprite memory describes it.
-#[derive(Drop)]
+#[derive(Clone, Copy)]
 pub struct Sprite {
     // The column of its left edge, -256 to 255.
     pub x: i16,
@@ -58,13 +58,13 @@ impl Sprite {
     }
 }
 
-#[derive(Drop)]
+#[derive(Clone, Copy)]
 pub struct SpriteSize {
     pub width: u8,
     pub height: u8,
 }
 
-#[derive(Drop)]
+#[derive(Clone, Copy)]
 pub enum SpriteAnswer {
     Is(Sprite),
     Refused(Refusal),

@@ -2,7 +2,7 @@
 ghost use Rattle.std.specs.Prelude.{◌≡◌};
 ghost use Rattle.oam_flags.specs.Flags.{kept_flags, clear_flags};
 
-#[derive(Drop)]
+#[derive(Clone, Copy)]
 pub struct OamFlags {
     pub time_over: bool,
     pub range_over: bool,

@@ -16,27 +16,27 @@ pub const PORT_ADDRESSES: u16 = 1024;
 
 // The address, 0 to 1,023, of the byte that the next access means, and the byte that waits for the
 // other half of its pair.
-#[derive(Drop)]
+#[derive(Clone, Copy)]
 pub struct OamPort {
     pub address: u16,
     pub write_latch: u8,
 }
 
 // On a refusal the port is what it was.
-#[derive(Drop)]
+#[derive(Clone, Copy)]
 pub struct PortAnswer {
     pub verdict: Verdict,
     pub port: OamPort,
 }
 
-#[derive(Drop)]
+#[derive(Clone, Copy)]
 pub enum ByteAnswer {
     Is(u8),
     Refused(Refusal),
 }
 
 // On a refusal the port is what it was.
-#[derive(Drop)]
+#[derive(Clone, Copy)]
 pub struct ReadAnswer {
     pub byte: ByteAnswer,
     pub port: OamPort,

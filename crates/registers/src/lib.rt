@@ -14,7 +14,7 @@ use constants::LAYERS;
 
 // The register values, in the scene file's order; then the mosaic counter (lines left in the
 // mosaic block) and the field (true in an odd frame), which the rules take as inputs.
-#[derive(Drop)]
+#[derive(Clone, Copy)]
 pub struct PPURegisters {
     pub inidisp: u8,
     pub objsel: u8,
@@ -49,13 +49,13 @@ pub struct PPURegisters {
     pub field: bool,
 }
 
-#[derive(Drop)]
+#[derive(Clone, Copy)]
 pub enum BoolAnswer {
     Is(bool),
     Refused(Refusal),
 }
 
-#[derive(Drop)]
+#[derive(Clone, Copy)]
 pub enum WordAnswer {
     Is(u16),
     Refused(Refusal),

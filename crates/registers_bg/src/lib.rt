@@ -16,26 +16,26 @@ use registers::constants::BACKGROUNDS;
 use registers::{BoolAnswer, PPURegisters, WordAnswer};
 
 // A background map's size: 64 tiles wide, 64 tiles tall; otherwise 32.
-#[derive(Drop)]
+#[derive(Clone, Copy)]
 pub struct MapSize {
     pub w64: bool,
     pub h64: bool,
 }
 
 // A background's scroll.
-#[derive(Drop)]
+#[derive(Clone, Copy)]
 pub struct Scroll {
     pub x: u16,
     pub y: u16,
 }
 
-#[derive(Drop)]
+#[derive(Clone, Copy)]
 pub enum SizeAnswer {
     Is(MapSize),
     Refused(Refusal),
 }
 
-#[derive(Drop)]
+#[derive(Clone, Copy)]
 pub enum ScrollAnswer {
     Is(Scroll),
     Refused(Refusal),

@@ -13,7 +13,7 @@ use base_refusal::Refusal;
 use registers::constants::{BACKGROUNDS, LARGEST_COUNTER};
 use registers::{BoolAnswer, PPURegisters, WordAnswer};
 
-#[derive(Drop)]
+#[derive(Clone, Copy)]
 pub enum OffsetAnswer {
     Is(i16),
     Refused(Refusal),

@@ -9,7 +9,7 @@ use test_replay::hex;
 const EDGES: [u16; 8] = [0, 255, 256, 271, 272, 511, 512, 65535];
 
 // The port over its memory.
-#[derive(Drop)]
+#[derive(Clone, Copy)]
 struct Memory {
     port: OamPort,
     oam: [u8; 544],

@@ -44,7 +44,7 @@ pub(crate) fn counters() {
 }
 
 // The generator's state, and registers whose scrolls were drawn from it.
-#[derive(Drop)]
+#[derive(Clone, Copy)]
 struct Drawn {
     x: u32,
     r: PPURegisters,

@@ -6,7 +6,7 @@ use crate::{digits, line};
 use registers::PPURegisters;
 
 // Window 1's edges, window 2's, and what the other windows' bits of the registers are filled with.
-#[derive(Drop)]
+#[derive(Clone, Copy)]
 struct Layout {
     wh0: u8,
     wh1: u8,

@@ -12,7 +12,7 @@ use registers::PPURegisters;
 use registers::inner::bit;
 
 // What cgwsel, cgadsub and coldata say of colour math.
-#[derive(Drop)]
+#[derive(Clone, Copy)]
 pub struct ColorMath {
     // The regions that keep main's colour and that allow math, 0 to 3.
     pub clip_mode: u8,

@@ -13,7 +13,7 @@ use scene_file::SCENE_BYTES;
 
 // What is changed: bytes at the end are cut off, zeros are filled in there, a count is set, a value
 // is set.
-#[derive(Drop)]
+#[derive(Clone, Copy)]
 pub enum Kind {
     Cut,
     Fill,
@@ -23,7 +23,7 @@ pub enum Kind {
 
 // A change: its kind, the first byte, how many bytes. A count and a value have what stood there and
 // what stands there now; the others have 0.
-#[derive(Drop)]
+#[derive(Clone, Copy)]
 pub struct Change {
     pub kind: Kind,
     pub first: usize,
@@ -33,14 +33,14 @@ pub struct Change {
 }
 
 // The changes in a list of 7 places with its length.
-#[derive(Drop)]
+#[derive(Clone, Copy)]
 pub struct Changes {
     pub list: [Change; 7],
     pub count: usize,
 }
 
 // On a refusal nothing is listed.
-#[derive(Drop)]
+#[derive(Clone, Copy)]
 pub struct SalvageAnswer {
     pub verdict: Verdict,
     pub changes: Changes,

@@ -7,7 +7,7 @@ use salvage::{Change, Kind};
 
 // A line: the first `size` bytes of its text. The 90 are those of 5 letters, of 4 numbers with 20
 // digits and a space each, and of a newline.
-#[derive(Drop)]
+#[derive(Clone, Copy)]
 pub struct TextLine {
     pub text: [u8; 90],
     pub size: usize,

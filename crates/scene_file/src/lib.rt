@@ -20,7 +20,7 @@ use tiles::inner::VRAM_WORDS;
 pub const SCENE_BYTES: usize = 66656;
 
 // The verdict on a scene, and its registers; on a refusal they are cleared ones.
-#[derive(Drop)]
+#[derive(Clone, Copy)]
 pub struct SceneAnswer {
     pub verdict: Verdict,
     pub registers: PPURegisters,

@@ -10,7 +10,7 @@ use oam::Sprite;
 use row_tests::inner::choice_tested;
 
 // A sprite with its number in sprite memory.
-#[derive(Drop)]
+#[derive(Clone, Copy)]
 pub struct VisibleSprite {
     pub index: u8,
     pub sprite: Sprite,
@@ -18,7 +18,7 @@ pub struct VisibleSprite {
 
 // The chosen sprites in a list of 32 places with its length, and what is said of them: how many of
 // their tiles count, whether those exceed 34, and whether there was a 33rd sprite.
-#[derive(Drop)]
+#[derive(Clone, Copy)]
 pub struct Chosen {
     pub sprites: [VisibleSprite; 32],
     pub count: usize,
@@ -28,7 +28,7 @@ pub struct Chosen {
 }
 
 // On a refusal nothing is chosen.
-#[derive(Drop)]
+#[derive(Clone, Copy)]
 pub struct ChoiceAnswer {
     pub verdict: Verdict,
     pub chosen: Chosen,

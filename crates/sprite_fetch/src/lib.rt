@@ -5,7 +5,7 @@ pub mod inner;
 use sprite_tile::PlacedRow;
 
 // The fetched tiles, in the order of the fetch: a list of 34 places with its length.
-#[derive(Drop)]
+#[derive(Clone, Copy)]
 pub struct Fetched {
     pub rows: [PlacedRow; 34],
     pub count: usize,

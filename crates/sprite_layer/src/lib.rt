@@ -15,7 +15,7 @@ use registers::constants::SCREEN_WIDTH;
 use row_tests::inner::layer_tested;
 
 // The verdict on a call, and the sprite line: on a refusal a line with no pixel.
-#[derive(Drop)]
+#[derive(Clone, Copy)]
 pub struct SpriteLineAnswer {
     pub verdict: Verdict,
     pub line: [Candidate; 256],

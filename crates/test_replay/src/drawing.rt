@@ -60,7 +60,7 @@ pub fn words(seed: u32) -> [u16; 256]
 }
 
 // Four numbers, and the generator's state after them.
-#[derive(Drop)]
+#[derive(Clone, Copy)]
 pub struct Four {
     pub a: u16,
     pub b: u16,

@@ -7,7 +7,7 @@ use line_pixels::inner::pick_color as pick;
 use test_numbers::{next, word};
 
 // What VRAM is filled with: any words; runs; a picture of few tiles; the tiles of sprites.
-#[derive(Drop)]
+#[derive(Clone, Copy)]
 pub enum Filling {
     Any,
     Runs,

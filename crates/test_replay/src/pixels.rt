@@ -9,7 +9,7 @@ use line_pixels::{LinePixel, Lines, deposit};
 use test_digest::one;
 
 // A column of the main screen and of the sub screen.
-#[derive(Drop)]
+#[derive(Clone, Copy)]
 pub struct Pixels {
     pub main: LinePixel,
     pub sub: LinePixel,

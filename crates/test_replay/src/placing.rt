@@ -8,7 +8,7 @@ use test_digest::{one, second_table_byte};
 
 // Where a sprite stands: at any column; at a column at which a rule changes for some width, or beside
 // it; at one of the first four of these; in a pile at the left; across the picture; left of it.
-#[derive(Drop)]
+#[derive(Clone, Copy)]
 pub enum Place {
     Any,
     Edge,

@@ -9,7 +9,7 @@ ghost use Rattle.test_script.specs.Names.{place_between};
 ghost use Rattle.test_script.specs.steps.Names.{goes_on};
 
 // What a search for a byte stops at.
-#[derive(Drop)]
+#[derive(Clone, Copy)]
 pub enum Stop {
     // a byte that is no blank: no space, tab or carriage return
     Word,
@@ -20,7 +20,7 @@ pub enum Stop {
 }
 
 // The number that a word is.
-#[derive(Drop)]
+#[derive(Clone, Copy)]
 pub enum NumberAnswer {
     Is(u64),
     Not,

@@ -11,7 +11,7 @@ use base_refusal::{Refusal, Verdict};
 use inner::VRAM_WORDS;
 
 // The bits of a pixel's colour index.
-#[derive(Drop)]
+#[derive(Clone, Copy)]
 pub enum BitDepth {
     Two,
     Four,
@@ -31,7 +31,7 @@ impl BitDepth {
     }
 }
 
-#[derive(Drop)]
+#[derive(Clone, Copy)]
 pub enum IndexAnswer {
     Is(u8),
     Refused(Refusal),
