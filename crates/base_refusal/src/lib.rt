@@ -1,4 +1,6 @@
 // The refusals of the rules, a name for each number.
+#![tactic(auto)]
+
 ghost use Rattle.std.specs.Prelude.{◌≡◌};
 ghost use Rattle.base_refusal.specs.Numbers.{number_of};
 

@@ -1,4 +1,6 @@
 // What every program writes in the same way.
+#![tactic(auto)]
+
 pub mod inner;
 
 ghost use Rattle.std.specs.Prelude.{◌≡◌};

@@ -1,5 +1,7 @@
 // A background's parameters, the place of its map that a pixel of the screen shows, and the entries
 // of the map. Follows renderer.rs, with its names.
+#![tactic(auto)]
+
 pub mod inner;
 
 ghost use Rattle.std.specs.Prelude.{◌≡◌};

@@ -1,5 +1,7 @@
 // The table of modes, and a background's parameters from the registers. Follows mode_0.rs, mode_1.rs
 // and mode_3.rs.
+#![tactic(auto)]
+
 pub mod inner;
 
 ghost use Rattle.std.specs.Prelude.{◌≡◌};

@@ -1,5 +1,7 @@
 // Says what the library's reader says of the scene on standard input. It holds one byte more than a
 // scene has, and so sees that a scene is longer.
+#![tactic(auto)]
+
 use base_refusal::Verdict;
 use base_refusal_line::refuse;
 

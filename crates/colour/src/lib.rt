@@ -1,4 +1,6 @@
 // Colours: BGR555 words, red in the low five bits. Follows renderer.rs, with its names.
+#![tactic(auto)]
+
 pub mod inner;
 
 ghost use Rattle.std.specs.Prelude.{◌≡◌};

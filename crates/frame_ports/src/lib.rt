@@ -1,4 +1,6 @@
 // Where the frame program reads and writes.
+#![tactic(auto)]
+
 pub mod inner;
 
 // What is done with lent bytes: they are filled from the scene, or handed on: to the plate, or as a

@@ -1,4 +1,6 @@
 // A layer's candidates on both screens, and their laying over both lines. Follows renderer.rs.
+#![tactic(auto)]
+
 pub mod inner;
 
 ghost use Rattle.std.specs.Prelude.{◌≡◌};

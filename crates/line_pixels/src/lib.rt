@@ -1,5 +1,7 @@
 // The pixels of a line before colour math, and the deposit of one on another. Follows renderer.rs,
 // with its names.
+#![tactic(auto)]
+
 pub mod inner;
 
 ghost use Rattle.std.specs.Prelude.{◌≡◌, leb};

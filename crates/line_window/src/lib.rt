@@ -1,4 +1,6 @@
 // A window by value. The crate registers_windows answers whether one holds a column.
+#![tactic(auto)]
+
 pub mod inner;
 
 // The window of a layer, or the colour window: two ranges of columns, the bits that invert and

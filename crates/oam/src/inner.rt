@@ -34,8 +34,8 @@ fn chr_base(objsel: u8, name_table: u8) -> u16
 }
 
 pub fn get_sprite(oam: &[u8], index: u8, objsel: u8) -> Sprite
-    requires fact_1 { length oam.now ≡ 544 }
-    requires fact_2 { index < 128 }
+    requires whole { length oam.now ≡ 544 }
+    requires in_range { index < 128 }
     ensures { result ≡ sprite_of oam.now index objsel }
 {
     let i = index as usize;

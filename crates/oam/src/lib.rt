@@ -1,5 +1,7 @@
 // Sprite memory: 544 bytes that describe 128 sprites. Follows oam.rs, with its names. What it says
 // of a row stands in the crates sprite_row and sprite_choice, its data port in oam_port.
+#![tactic(auto)]
+
 pub mod inner;
 
 ghost use Rattle.std.specs.Prelude.{◌≡◌, ◌<◌};

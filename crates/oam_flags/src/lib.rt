@@ -1,4 +1,6 @@
 // The overflow flags of sprite choice, kept from row to row. Follows oam.rs, with its names.
+#![tactic(auto)]
+
 ghost use Rattle.std.specs.Prelude.{◌≡◌};
 ghost use Rattle.oam_flags.specs.Flags.{kept_flags, clear_flags};
 

@@ -14,8 +14,8 @@ fn byte_number(address: u16) -> usize
 }
 
 pub fn byte_at(oam: &[u8], address: u16) -> u8
-    requires fact_1 { length oam.now ≡ 544 }
-    requires fact_2 { address < 1024 }
+    requires whole { length oam.now ≡ 544 }
+    requires in_range { address < 1024 }
     ensures { result ≡ memory_byte oam.now address }
 {
     oam[byte_number(address)]
@@ -41,8 +41,8 @@ pub fn write_addr(port: OamPort, oamadd: u16) -> OamPort
 }
 
 pub fn write_data(port: OamPort, oam: &mut [u8], value: u8) -> OamPort
-    requires fact_1 { length oam.old ≡ 544 }
-    requires fact_2 { port.address < 1024 }
+    requires whole { length oam.old ≡ 544 }
+    requires in_range { port.address < 1024 }
     ensures { machine oam.new result ≡ store value (machine oam.old port) }
 {
     let addr = port.address as usize;

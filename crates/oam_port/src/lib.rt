@@ -1,5 +1,7 @@
 // The data port of sprite memory: its address and latch by value, over the lent memory. Follows
 // oam.rs, with its names.
+#![tactic(auto)]
+
 pub mod inner;
 
 ghost use Rattle.std.specs.Prelude.{◌≡◌, List, ℕ, ◌<◌};

@@ -2,6 +2,8 @@
 //
 // Follows registers.rs and ppu.rs, with their names. What is read of a background and of a window
 // stands in the crates registers_bg and registers_windows.
+#![tactic(auto)]
+
 pub mod constants;
 pub mod inner;
 

@@ -2,6 +2,8 @@
 //
 // Follows registers.rs, with its names. A public call tests its own arguments and then
 // asks `inner`, where the work is done.
+#![tactic(auto)]
+
 pub mod inner;
 
 ghost use Rattle.std.specs.Prelude.{◌≡◌};

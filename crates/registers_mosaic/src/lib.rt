@@ -1,5 +1,7 @@
 // Mosaic: its size, and the block and offset of a background. Follows registers.rs and ppu.rs, with
 // their names. A public call tests its own arguments and then asks `inner`, where the work is done.
+#![tactic(auto)]
+
 pub mod inner;
 
 ghost use Rattle.std.specs.Prelude.{◌≡◌};

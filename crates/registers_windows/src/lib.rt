@@ -1,5 +1,7 @@
 // The windows, read from the registers. Follows registers.rs, with its names. A public call tests
 // its own arguments and then asks `inner`, where the work is done.
+#![tactic(auto)]
+
 pub mod inner;
 
 ghost use Rattle.std.specs.Prelude.{◌≡◌};

@@ -1,4 +1,6 @@
 // Replays the oracle's list `colour`: the same inputs in the same order, a line for each.
+#![tactic(auto)]
+
 use colour::RgbAnswer;
 use test_numbers::{next, word};
 

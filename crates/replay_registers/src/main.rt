@@ -1,4 +1,6 @@
 // Replays the oracle's list `registers`: every public reader, a line for each input.
+#![tactic(auto)]
+
 mod answers;
 mod backgrounds;
 mod masks;

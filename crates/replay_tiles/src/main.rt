@@ -1,4 +1,6 @@
 // Replays the oracle's list `tiles`: the three decoders over a VRAM of random words.
+#![tactic(auto)]
+
 ghost use Rattle.std.specs.Prelude.{◌<◌};
 
 use test_numbers::{next, word};

@@ -1,5 +1,7 @@
 // Colour math at one pixel: main's colour and sub's, the layers that take part and the regions of the
 // colour window. Follows renderer.rs, with its names.
+#![tactic(auto)]
+
 pub mod inner;
 
 ghost use Rattle.std.specs.Prelude.{◌≡◌};

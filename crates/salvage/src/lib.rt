@@ -1,5 +1,7 @@
 // Salvage of a scene file that stops early: whatever is lent comes out as a scene that the reader
 // accepts, with a list of what was changed.
+#![tactic(auto)]
+
 pub mod inner;
 
 ghost use Rattle.std.specs.Prelude.{◌≡◌};

@@ -1,4 +1,6 @@
 // A file of any length on standard input, salvaged.
+#![tactic(auto)]
+
 pub mod inner;
 
 ghost use Rattle.salvage_input.specs.Input.{OfInput};

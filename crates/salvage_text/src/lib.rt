@@ -1,4 +1,6 @@
 // The line of a change, as text.
+#![tactic(auto)]
+
 ghost use Rattle.std.specs.Prelude.{◌≡◌, [], ◌∷◌, ◌++◌, ◌+◌, ◌≤◌, length};
 ghost use Rattle.salvage_text.specs.Text.{spaced, kind_name, added_numbers, change_line, LineIs};
 ghost use Rattle.salvage_text.specs.steps.Text.{written, Clean};

@@ -1,5 +1,7 @@
 // The scene file: sections in a fixed order, each after its count. The reader takes it as one lent
 // slice and writes its targets only when all of it is accepted.
+#![tactic(auto)]
+
 pub mod inner;
 
 ghost use Rattle.std.specs.Prelude.{◌≡◌, ◌≤◌, length};

@@ -47,8 +47,8 @@ pub fn none_chosen() -> Chosen
 
 // The sprite at place k of the search, which wraps at 128.
 fn placed_at(oam: &[u8], objsel: u8, start: u8, k: u8) -> VisibleSprite
-    requires fact_1 { length oam.now ≡ 544 }
-    requires fact_2 { (start < 128) × (k < 128) }
+    requires whole { length oam.now ≡ 544 }
+    requires in_range { (start < 128) × (k < 128) }
     ensures { result ≡ placed_at oam.now objsel start k }
 {
     let index = (start + k) % 128;

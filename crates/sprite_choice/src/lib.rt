@@ -1,4 +1,6 @@
 // The sprites chosen for a row, with what the console says of them. Follows oam.rs, with its names.
+#![tactic(auto)]
+
 pub mod inner;
 
 ghost use Rattle.std.specs.Prelude.{◌≡◌};

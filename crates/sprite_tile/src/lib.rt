@@ -1,5 +1,7 @@
 // A sprite's tiles as a row shows them: which of its lines, where its tiles stand in VRAM, and their
 // pixels. Follows sprites.rs.
+#![tactic(auto)]
+
 pub mod inner;
 
 use tiles_row::TileRow;

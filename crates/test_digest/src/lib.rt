@@ -1,5 +1,7 @@
 // What the comparisons share: the bits of a sprite in the second table, what a list holds of a
 // sprite, and digests of lists of numbers.
+#![tactic(auto)]
+
 ghost use Rattle.std.specs.Prelude.{◌≡◌, ◌%◌, ◌<◌};
 ghost use Rattle.test_digest.specs.Digest.{second_table_byte, folded, one_of, sprite_place, marks_of};
 

@@ -1,5 +1,7 @@
 // The numbers that a comparison with the Rust draws: the oracle has the same generator, so a list
 // holds answers alone and both sides make its inputs.
+#![tactic(auto)]
+
 ghost use Rattle.std.specs.Prelude.{◌≡◌, ◌+◌, ◌*◌, ◌/◌};
 ghost use Rattle.test_numbers.specs.Generator.{next_of, seed_of};
 

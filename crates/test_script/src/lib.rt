@@ -1,5 +1,7 @@
 // The words of a script of test cases, read from its bytes: where a word begins and ends, the number
 // that it is, and its place in a list of names.
+#![tactic(auto)]
+
 ghost use Rattle.std.specs.Prelude.{◌≡◌, true, ◌+◌, ◌<◌, ◌≤◌, length};
 ghost use Rattle.std.proofs.Math.Seq.{slice};
 ghost use Rattle.test_script.specs.Seek.{is_blank, stops_at, seek_of};

@@ -1,5 +1,7 @@
 // Tiles in VRAM, and the colour indexes of their pixels. Follows mode_0.rs, mode_1.rs and
 // mode_3.rs, with their names.
+#![tactic(auto)]
+
 pub mod inner;
 
 ghost use Rattle.std.specs.Prelude.{◌≡◌, ◌<◌};

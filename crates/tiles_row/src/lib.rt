@@ -1,5 +1,7 @@
 // A row of a tile: the eight pixels that a row of the screen shows of it, whichever layer the tile is
 // of.
+#![tactic(auto)]
+
 pub mod inner;
 
 use line_pixels::Priority;

@@ -1,0 +1,9 @@
+use Rattle.scene_input.proofs.Reading.{read_end}
+use mathlib.Core.Path.{ap, ◌∙◌}
+use lib.ListN.{take}
+use Rattle.scene_file.specs.File.{end_tests}
+use Rattle.scene_input.proofs.inner.end.Goals as goal
+
+pub returns : goal.returns
+returns c =
+    read_end (take c.moved.result c.moved.new.1.0) (c.end_tested.ensures ∙ ap end_tests c.moved.ensures.1)
