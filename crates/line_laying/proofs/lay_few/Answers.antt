@@ -1,3 +1,4 @@
+use borrow.Author.Tests.{not-true}
 use mathlib.Core.Path.{◌∙◌}
 use borrow.Author.Rules.{rules}
 use lib.ListN.{get_or}
@@ -16,7 +17,7 @@ loop-x-preserved-then-not-c c =
     let i = c.loop-x.invariant in
     let x = c.loop-x.x in
     let h = c.loop-x-test.true in
-    let clear = c.if-not-c.true in (
+    let clear = not-true _ c.if-not-c.true in (
       filled_kept i.0 h no_pixel (clear_kept (get_or a.lines.main x no_pixel) (on_main a.s x) (candidate_in a.row x) clear),
       filled_kept i.1 h no_pixel (clear_kept (get_or a.lines.sub x no_pixel) (on_sub a.s x) (candidate_in a.row x) clear),
     )
