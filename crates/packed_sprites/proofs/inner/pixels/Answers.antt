@@ -12,7 +12,7 @@ use Rattle.packed_sprites.proofs.inner.pixels.Goals as goal
 pub of_four-requires : goal.of_four-requires
 of_four-requires c =
     let s = c in
-    ((λ i. length (c.colors-colors.ensures i)) ∙ colours_length s.args.g.now s.args.t.palette s.pre.0 s.pre.1.palette_in, c.head-head.ensures.1)
+    ((λ i. length (c.colors-colors.ensures i)) ∙ colours_length s.args.g.now s.args.t.palette s.requires.0 s.requires.1.palette_in, c.head-head.ensures.1)
 
 pub returns : goal.returns
 returns c =
