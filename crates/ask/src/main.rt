@@ -1,5 +1,7 @@
 // Reads a script of cases from the standard input and writes it out again, each answer beside the
 // statement that asked. What a script may say stands in docs/ASKING.md.
+#![tactic(auto)]
+
 mod cells;
 mod dump;
 mod lay;

@@ -1,5 +1,7 @@
 // Draws a scene again and again, for bench/run to time. Standard input has how often, in four bytes,
 // the lowest first, and then the scene. It writes a digest of what it drew.
+#![tactic(auto)]
+
 mod rows;
 
 use base_refusal::Verdict;

@@ -1,4 +1,6 @@
 // Draws the scene on standard input.
+#![tactic(auto)]
+
 fn main() {
     frame_library::frame();
 }

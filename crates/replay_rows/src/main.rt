@@ -1,4 +1,6 @@
 // Replays the oracle's list `rows`: all rows of whole scenes.
+#![tactic(auto)]
+
 mod columns;
 mod kinds;
 mod rows;
