@@ -1,5 +1,7 @@
 // A background's candidates at a column of a row, and its laying over both lines. Follows
 // renderer.rs, with its names.
+#![tactic(auto)]
+
 pub mod inner;
 
 ghost use Rattle.std.specs.Prelude.{◌≡◌, true, ◌&&◌};

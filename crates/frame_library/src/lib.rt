@@ -1,5 +1,7 @@
 // The frame program: a scene comes in section by section, and its plate goes out row by row. It is a
 // library so that programs with another input can run it too.
+#![tactic(auto)]
+
 pub mod inner;
 
 ghost use Rattle.std.specs.Prelude.{◌≡◌, ltb, length};
@@ -26,7 +28,7 @@ const PLATE_BYTES: usize = 172047;
 
 // Hands on the plate of a scene that was read and accepted, and says how much of it was taken.
 fn show(vram: &[u16], cgram: &[u16], oam: &[u8], body: &[u8]) -> usize
-    requires cgram_len { (length cgram.now ≡ 256) × ((length oam.now ≡ 544) × (length body.now ≡ 48)) }
+    requires lengths { (length cgram.now ≡ 256) × ((length oam.now ≡ 544) × (length body.now ≡ 48)) }
     requires scene_read { SceneRead body.now oam.now cgram.now vram.now Fine }
     ensures { Taken (scene (registers_of body.now) vram.now cgram.now oam.now) result }
 {

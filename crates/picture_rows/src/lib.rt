@@ -1,5 +1,7 @@
 // Two lent pictures, as the Rust's front and back buffers: the chosen one's row, handed back as its
 // own part.
+#![tactic(auto)]
+
 ghost use Rattle.std.specs.Prelude.{◌≡◌, length};
 ghost use Rattle.base_refusal.specs.Verdicts.{verdict_means, Passed};
 ghost use Rattle.picture_rows.specs.Pictures.{picture_tests, lent, picture_row};

@@ -1,4 +1,6 @@
 // Replays the oracle's list `background`: rows of scenes in which one background alone is lit.
+#![tactic(auto)]
+
 mod rows;
 mod scene;
 

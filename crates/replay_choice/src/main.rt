@@ -1,4 +1,6 @@
 // Replays the oracle's list `choice`: the sprites chosen for a row, their counting tiles, the flags.
+#![tactic(auto)]
+
 mod rows;
 mod scene;
 

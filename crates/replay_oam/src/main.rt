@@ -1,5 +1,7 @@
 // Replays the oracle's list `oam`: the sprites that sprite memory describes, their sizes and their
 // columns.
+#![tactic(auto)]
+
 use oam::{Sprite, SpriteAnswer};
 use test_digest::{fold, marks, place, second_table_byte};
 use test_numbers::{next, word};

@@ -1,4 +1,6 @@
 // Replays the oracle's list `port`: the data port of sprite memory.
+#![tactic(auto)]
+
 use oam_port::{ByteAnswer, OamPort};
 use std::num::wrapping_add_u32;
 use test_numbers::{next, word};

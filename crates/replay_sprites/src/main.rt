@@ -1,4 +1,6 @@
 // Replays the oracle's list `sprites`: rows of scenes in which sprites alone are lit.
+#![tactic(auto)]
+
 mod pixels;
 mod rows;
 mod scene;

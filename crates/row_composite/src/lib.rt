@@ -1,5 +1,7 @@
 // The composite of both lines: colour math and brightness, into the bytes of a row. Follows
 // renderer.rs, with its names.
+#![tactic(auto)]
+
 pub mod inner;
 
 ghost use Rattle.std.specs.Prelude.{◌≡◌};

@@ -1,5 +1,7 @@
 // The layers by their numbers, BG1 to BG4 0 to 3 and the sprites 4: the lines before any is laid,
 // one laying step, and a layer's candidates at a column. Follows renderer.rs.
+#![tactic(auto)]
+
 pub mod inner;
 
 ghost use Rattle.std.specs.Prelude.{◌≡◌};

@@ -1,5 +1,7 @@
 // A whole row: backdrops, backgrounds, sprites, composite; into a lent row, and into its part of a
 // lent picture. Follows renderer.rs, with its names.
+#![tactic(auto)]
+
 pub mod inner;
 
 ghost use Rattle.std.specs.Prelude.{◌≡◌};

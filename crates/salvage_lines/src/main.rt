@@ -1,4 +1,6 @@
 // Says what salvage changes in the file on standard input: a line for each change.
+#![tactic(auto)]
+
 use salvage::{Change, Changes};
 use salvage_input::salvage_input;
 use salvage_text::line_of;

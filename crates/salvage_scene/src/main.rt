@@ -1,4 +1,6 @@
 // Writes the scene that salvage makes of the file on standard input.
+#![tactic(auto)]
+
 use salvage_input::salvage_input;
 
 fn main() {

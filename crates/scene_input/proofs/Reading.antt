@@ -9,7 +9,6 @@ use lib.Seq.{take_all, take_at, drop_at, drop-append-le, drop-drop, get_or-take,
 use lib.Dec.{eqb, leb, ltb}
 use borrow.Author.Tests.{leb-true, leb-false, le-leb, lt-leb, ltb-false, eqb-false, ne_eqb}
 use Rattle.base_refusal.specs.Answer.{Answer, value, refused, provided, ◌and_then◌}
-use Rattle.base_refusal.specs.Numbers.{number_of}
 use Rattle.base_refusal.specs.Verdicts.{verdict_means, Passed}
 use Rattle.base_refusal.specs.theorems.Verdicts.{passed}
 use Rattle.base_refusal.specs.declared.Refusal.{Refusal}

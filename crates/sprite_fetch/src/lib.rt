@@ -1,5 +1,7 @@
 // The tiles that are fetched for a row's chosen sprites, and the sprite line that they leave. Follows
 // sprites.rs.
+#![tactic(auto)]
+
 pub mod inner;
 
 use sprite_tile::PlacedRow;

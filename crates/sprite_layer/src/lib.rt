@@ -1,5 +1,7 @@
 // The sprites of a row: the sprite line, their candidates at a column, and their laying over both
 // lines. Follows sprites.rs, with its names.
+#![tactic(auto)]
+
 pub mod inner;
 
 ghost use Rattle.std.specs.Prelude.{◌≡◌};

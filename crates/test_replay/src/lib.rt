@@ -2,6 +2,8 @@
 // sprites that they draw, their digests, and what they write.
 //
 // No contract can say what is read or written. A function that writes hands on what it was given.
+#![tactic(auto)]
+
 pub mod drawing;
 pub mod memory;
 pub mod pixels;

@@ -82,7 +82,7 @@ plus_black a = omega arith
 -- Black, subtracted, changes nothing in the low fifteen bits; bit 15 is cleared.
 pub minus_black : (a : ℕ) → minus a black ≡ a % 32768
 unfolding math_of
-minus_black a = low_fifteen a
+minus_black a = omega arith
 
 -- Subtracting one colour and then another is subtracting their sum.
 pub minus_by_sum : (a b c : ℕ) → minus (minus a b) c ≡ minus a (plus b c)

@@ -1,6 +1,6 @@
+use borrow.Author.Tests.{not-true}
 use mathlib.Core.Path.{◌∙◌}
 use borrow.Author.Rules.{rules}
-use borrow.Author.Tests.{not-true}
 use lib.ListN.{get_or}
 use Rattle.base_lists.specs.steps.Filling.{filled_none, filled_read, filled_more, filled_kept, filled_all, long_field}
 use Rattle.line_pixels.specs.Pixels.{no_pixel, deposited}
@@ -18,8 +18,8 @@ loop-x-preserved-then-not-c c =
     let x = c.loop-x.x in
     let h = c.loop-x-test.true in
     let clear = not-true _ c.if-not-c.true in (
-      filled_kept i.0 h no_pixel (clear_kept (get_or a.lines.main x no_pixel) (on_main a.s x) (candidate_in a.t2 x) clear),
-      filled_kept i.1 h no_pixel (clear_kept (get_or a.lines.sub x no_pixel) (on_sub a.s x) (candidate_in a.t2 x) clear),
+      filled_kept i.0 h no_pixel (clear_kept (get_or a.lines.main x no_pixel) (on_main a.s x) (candidate_in a.row x) clear),
+      filled_kept i.1 h no_pixel (clear_kept (get_or a.lines.sub x no_pixel) (on_sub a.s x) (candidate_in a.row x) clear),
     )
 
 pub loop-x-preserved : goal.loop-x-preserved

@@ -18,10 +18,10 @@ returns c =
       w64 = (c.bg_tilemap_size-size.ensures i).w64;
       h64 = (c.bg_tilemap_size-size.ensures i).h64;
       tile16 = c.bg_tile16.ensures i;
-      c = c.bg_mosaic.ensures i;
+      mosaic = c.bg_mosaic.ensures i;
       z_low = (c.new-z_low.ensures ∙ (λ j. priority (m j).low)) i;
       z_high = (c.new-z_high.ensures ∙ (λ j. priority (m j).high)) i;
-      c = c.from_bg-layer.ensures i;
+      layer = c.from_bg-layer.ensures i;
       to_main = (m i).present && c.bit.ensures i;
       to_sub = (m i).present && c.bit-2.ensures i;
     }

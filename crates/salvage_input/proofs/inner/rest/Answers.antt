@@ -15,7 +15,7 @@ pub loop-total-smaller : goal.loop-total-smaller
 loop-total-smaller c = omega arith
 
 pub loop-total-preserved : goal.loop-total-preserved
-loop-total-preserved c = (c.read_full-got.auto.1.0 ∙ c.loop-total.invariant.0, omega arith)
+loop-total-preserved c = (c.read_full-got.auto.buf ∙ c.loop-total.invariant.0, omega arith)
 
 pub returns : goal.returns
 returns c = omega arith

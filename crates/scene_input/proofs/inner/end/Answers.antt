@@ -6,4 +6,4 @@ use Rattle.scene_input.proofs.inner.end.Goals as goal
 
 pub returns : goal.returns
 returns c =
-    read_end (take c.moved.result c.moved.new.1.0) (c.end_tested.ensures ∙ ap end_tests c.moved.ensures.1)
+    read_end (take c.moved.result c.moved.new.bytes) (c.end_tested.ensures ∙ ap end_tests c.moved.ensures.1)

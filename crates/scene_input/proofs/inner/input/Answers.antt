@@ -3,7 +3,7 @@ use Rattle.scene_input.proofs.inner.input.Goals as goal
 
 pub returns-in-Fine : goal.returns-in-Fine
 returns-in-Fine c =
-    read_scene c.sections.ensures c.enum_told-1.given.1 c.values_tested.ensures
+    read_scene c.sections.ensures c.in-Fine.is c.values_tested.ensures
 
 pub returns-in-Refused : goal.returns-in-Refused
 returns-in-Refused c = read_no_scene c.sections.ensures c.in-Refused.is

@@ -5,8 +5,8 @@ use Rattle.scene_input.proofs.inner.section.Goals as goal
 
 pub returns-in-Fine : goal.returns-in-Fine
 returns-in-Fine c =
-    let four = c.moved-came.auto.1.0 ∙ c.requires.0 in
-    let long = c.moved.auto.1.0 ∙ c.requires.1 in
+    let four = c.moved-came.auto.bytes ∙ c.requires.0 in
+    let long = c.moved.auto.bytes ∙ c.requires.1 in
     read_body _ _ c.count_tested.ensures _ c.moved.result c.in-Fine.is
     (omega (arith, four, c.moved-came.ensures.0, c.moved-came.ensures.1))
     long

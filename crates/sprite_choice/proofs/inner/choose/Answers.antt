@@ -1,7 +1,7 @@
 use Prim.Native.Nat.{◌≤◌}
 use mathlib.Core.Path.{◌≡◌, sym, ap, ◌∙◌}
 use native.Mathlib.Omega.{arith}
-use borrow.Author.Tests.{not-true, not-false, le-ltb}
+use borrow.Author.Tests.{le-ltb}
 use lib.ListN.{length}
 use lib.Seq.{take_all}
 use Rattle.oam.specs.Sprites.{sprite_of}
@@ -48,7 +48,7 @@ is-on-3 c =
 pub loop-k-preserved-then-not-in_range : goal.loop-k-preserved-then-not-in_range
 loop-k-preserved-then-not-in_range c = let a = c.args in
     let l = c.loop-k in
-    (rw (found_no a.oam.now a.row a.objsel _ a.obj_interlace l.k (sym (is-on-3 c) ∙ not-true _ c.if-not-in_range.true)) l.invariant.0, omega arith)
+    (rw (found_no a.oam.now a.row a.objsel _ a.obj_interlace l.k (sym (is-on-3 c) ∙ c.if-not-in_range.true)) l.invariant.0, omega arith)
 
 pub returns-then-count-eq-MAX_SPRITES : goal.returns-then-count-eq-MAX_SPRITES
 unfolding search_order
@@ -56,7 +56,7 @@ returns-then-count-eq-MAX_SPRITES c = let a = c.args in
     let l = c.loop-k in
     let s = l.invariant.0 in
     let start = c.search_start-start in
-    let on = sym (is-on-2 c) ∙ not-false _ c.if-not-in_range.false in
+    let on = sym (is-on-2 c) ∙ c.if-not-in_range.false in
     let full = sym s.is_count ∙ c.if-count-eq-MAX_SPRITES.true in
     let less = c.loop-k-test.true in
     rw (← start.ensures.0)
@@ -67,7 +67,7 @@ returns-then-count-eq-MAX_SPRITES c = let a = c.args in
 pub loop-k-preserved : goal.loop-k-preserved
 loop-k-preserved c = let a = c.args in
     let l = c.loop-k in
-    let on = sym (is-on-1 c) ∙ not-false _ c.if-not-in_range.false in
+    let on = sym (is-on-1 c) ∙ c.if-not-in_range.false in
     let p = c.placed_at-p in (
       so_far_more a.oam.now a.objsel _ l.invariant.0 (found_yes a.oam.now a.row a.objsel _ a.obj_interlace l.k on) c.if-count-eq-MAX_SPRITES.false p.ensures c.counting_tiles-tiles.ensures.0 c.counting_tiles-tiles.ensures.1,
       omega arith,
