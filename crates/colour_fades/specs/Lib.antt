@@ -1,2 +1,3 @@
 pub mod Fades
 pub mod theorems
+pub mod steps

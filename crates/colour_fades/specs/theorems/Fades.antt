@@ -3,7 +3,7 @@ use Rattle.std.proofs.Common.{sym, ◌∙◌, arith}
 use Rattle.colour.specs.Colour.{red_of, green_of, blue_of, colour_word, channel_of, math_of}
 use Rattle.colour.specs.Bit15.{SameColour}
 use Rattle.colour.specs.theorems.Bit15.{channel_small, math_clear}
-use Rattle.colour_fades.specs.Fades.{plus, minus, black, plus_all, minus_all, joined, MeetsContract, Joins}
+use Rattle.colour_fades.specs.Fades.{plus, minus, black, plus_all, minus_all, joined}
 
 -- a word's channels are those it was made of
 module _ (r g b : ℕ) (p : r < 32) (q : g < 32) (h : b < 32) where
