@@ -1,5 +1,5 @@
 -- Where on its map a background's pixels come from.
-use Rattle.std.specs.Prelude.{ℕ, ◌+◌, ◌-◌, ◌*◌, ◌%◌, Bool, true, false, ℤ, pos, ◌+ℤ◌, ◌-ℤ◌}
+use Rattle.std.specs.Prelude.{ℕ, ◌+◌, ◌-◌, ◌*◌, ◌%◌, Bool, true, false, pos, ◌+ℤ◌, ◌-ℤ◌}
 use Rattle.base_signed.specs.Remainder.{remainder}
 use Rattle.registers.specs.declared.PPURegisters.{PPURegisters}
 use Rattle.registers_mosaic.specs.Mosaic.{block_if, offset_if}

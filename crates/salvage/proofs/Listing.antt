@@ -5,7 +5,6 @@ use mathlib.Core.List.{List, [], ◌∷◌, ◌++◌, append_assoc, append-nil}
 use native.Mathlib.Omega.{arith}
 use lib.ListN.{length, get_or, set, replicate, length-append}
 use borrow.Author.Tests.{lt-ltb, le-ltb, eq-eqb, ne_eqb}
-use Rattle.base_lists.specs.Places.{places}
 use Rattle.base_lists.specs.theorems.Places.{places_none, places_more}
 use Rattle.scene_file.specs.File.{count_at}
 use Rattle.salvage.specs.declared.Kind.{Kind}

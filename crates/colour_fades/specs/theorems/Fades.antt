@@ -1,8 +1,8 @@
-use Rattle.std.specs.Prelude.{ℕ, ◌+◌, ◌-◌, ◌/◌, ◌%◌, ◌<◌, min, ◌≡◌, Bool, true, false, List, [], ◌∷◌}
+use Rattle.std.specs.Prelude.{ℕ, ◌%◌, ◌<◌, ◌≡◌, Bool, List, [], ◌∷◌}
 use Rattle.std.proofs.Common.{sym, ◌∙◌, arith}
 use Rattle.colour.specs.Colour.{red_of, green_of, blue_of, colour_word, channel_of, math_of}
 use Rattle.colour.specs.Bit15.{SameColour}
-use Rattle.colour.specs.theorems.Bit15.{channel_small, math_clear}
+use Rattle.colour.specs.theorems.Bit15.{channel_small}
 use Rattle.colour_fades.specs.Fades.{plus, minus, black, plus_all, minus_all, joined}
 
 -- a word's channels are those it was made of

@@ -1,8 +1,6 @@
-use Prim.Native.Nat.{ℕ, ◌+◌}
+use Prim.Native.Nat.{ℕ}
 use mathlib.Core.Path.{◌≡◌, sym, ap, ◌∙◌}
 use native.Mathlib.Omega.{arith}
-use lib.Seq.{slice}
-use Rattle.test_script.specs.Number.{digits_of}
 use Rattle.test_script.specs.steps.Number.{more_of}
 use Rattle.test_script.proofs.Reading.{onward, no_digit, first_digit, next_digit, last_digit}
 use Rattle.test_script.proofs.digits.Goals as goal

@@ -1,7 +1,6 @@
 use borrow.Author.Rules.{rules}
 use Rattle.base_lists.specs.steps.Filling.{filled_none, filled_read, filled_more, filled_all, long_field}
 use Rattle.line_pixels.specs.Pixels.{no_pixel, deposited}
-use mathlib.Core.Bool.{false}
 use mathlib.Core.Path.{◌∙◌}
 use Rattle.line_laying.proofs.inner.lay_line.Goals as goal
 

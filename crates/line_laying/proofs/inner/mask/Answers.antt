@@ -2,7 +2,6 @@ use borrow.Author.Rules.{rules}
 use Rattle.line_laying.proofs.Screens.{mask_off, mask_on}
 use Rattle.base_lists.specs.steps.Filling.{front_none, front_more, front_all}
 use Rattle.base_lists.specs.theorems.Tab.{by_get_d}
-use Rattle.line_window.specs.Window.{masked}
 use lib.ListN.{get_or-replicate}
 use mathlib.Core.Bool.{false, not}
 use mathlib.Core.Path.{ap, ◌∙◌}

@@ -1,6 +1,6 @@
 use mathlib.Core.Path.{refl}
 use native.Mathlib.Omega.{arith}
-use Rattle.scene_bytes.specs.Bytes.{word_at, words_of}
+use Rattle.scene_bytes.specs.Bytes.{words_of}
 use Rattle.base_lists.specs.steps.Filling.{front_none, front_more, front_all}
 use Rattle.scene_bytes.proofs.inner.words.Goals as goal
 
