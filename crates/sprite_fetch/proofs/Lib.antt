@@ -1,3 +1,4 @@
 pub mod Order
 pub mod Draws
 pub mod Shows
+pub mod theorems

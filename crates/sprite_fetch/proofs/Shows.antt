@@ -31,7 +31,7 @@ use Rattle.sprite_tile.proofs.Laws.{placed_index}
 use Rattle.sprite_fetch.specs.declared.Fetched.{Fetched}
 use Rattle.sprite_fetch.specs.Fetch.{Tile, tile, counting_places, fetch_order, fetched, fetched_of, among, across, over, fetched_pixel, line_pixel}
 use Rattle.sprite_fetch.specs.steps.Turns.{leaves, own_places}
-use Rattle.sprite_fetch.specs.theorems.Turns.{in_turn}
+use Rattle.sprite_fetch.proofs.theorems.Turns.{in_turn}
 use Rattle.sprite_fetch.specs.steps.Walk.{placed_in, blank_row, fetched_list, offset_in, drawn_to, drawn_all, drawn_line}
 use Rattle.sprite_fetch.proofs.Draws.{drawn_append}
 

@@ -1,4 +1,3 @@
 pub mod Fetch
 pub mod Wins
-pub mod theorems
 pub mod steps

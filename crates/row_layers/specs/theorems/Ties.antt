@@ -30,7 +30,7 @@ use Rattle.sprite_fetch.specs.Fetch.{Tile, among, across, fetched_of, fetched_pi
 use Rattle.sprite_layer.specs.Sprites as sprites
 use Rattle.bg_modes.specs.Modes.{lacks, mode_rows, bg_mode_of, params_of}
 use Rattle.bg_modes.specs.Ties.{priorities, priorities_of, sprite_priorities, layer_priorities}
-use Rattle.bg_modes.specs.theorems.Ties.{four_rows, no_shared_priority}
+use Rattle.bg_modes.proofs.theorems.Ties.{four_rows, no_shared_priority}
 use Rattle.registers.specs.Scene.{Scene}
 use Rattle.row_layers.specs.Layers.{bg_shown, bg_at, sprite_at, layer_shown, layer_pixel}
 use Rattle.row_layers.specs.theorems.Numbers.{shown_low, pixel_low, pixel_four, pixel_none}

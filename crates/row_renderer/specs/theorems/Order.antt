@@ -9,7 +9,7 @@ use Rattle.line_pixels.specs.declared.Lines.{Lines}
 use Rattle.row_composite.specs.Composite.{row_bytes}
 use Rattle.registers.specs.Scene.{Scene}
 use Rattle.row_layers.specs.Order.{AllFive, lines_after, Run}
-use Rattle.row_layers.specs.theorems.Order.{any_order, run_lays}
+use Rattle.row_layers.proofs.theorems.Order.{any_order, run_lays}
 use Rattle.row_renderer.specs.Renderer.{scene_row}
 
 -- the order in which a row is drawn has all five

@@ -164,8 +164,7 @@ loop-k-preserved c =
 
 pub loop-t-preserved-then-not-tile_counts : goal.loop-t-preserved-then-not-tile_counts
 loop-t-preserved-then-not-tile_counts c =
-    let l = c.loop-t in
-    (
+    let l = c.loop-t in (
       so_far_at c.args.view
           (λ i. later-5 c ++ sym (tiles_no (sprite-5 c) l.t (sym (is-counted-2 c) ∙ c.if-not-tile_counts.true)) i)
           l.invariant.0,

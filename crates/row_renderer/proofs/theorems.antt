@@ -1,0 +1,2 @@
+pub mod Bit15
+pub mod Unlit
