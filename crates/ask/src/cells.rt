@@ -1,7 +1,6 @@
 // The numbers of a script that have a name: the registers, a background's parameters, the lengths that
 // are lent, the port and the flags, and the arguments of a statement.
-ghost use Rattle.std.specs.Prelude.{◌<◌, ◌≡◌, length};
-ghost use Rattle.io.specs.Counts.{IsPrefixLen};
+ghost use Rattle.std.specs.Prelude.{◌<◌, ◌≤◌};
 
 use bg_map::BgParams;
 use line_pixels::{Layer, Priority};
@@ -9,13 +8,40 @@ use registers::PPURegisters;
 use test_script::place;
 use tiles::BitDepth;
 
-pub(crate) const CELLS: usize = 112;
+const CELLS: usize = 112;
+
+pub(crate) type Cells = [u64; CELLS];
+
+// What a statement can set for those after it.
+#[derive(Clone, Copy)]
+pub(crate) enum Setting {
+    Registers,
+    Background,
+    Lengths,
+    Port,
+}
 
 // Where each kind of names begins, after the registers. What follows the last name is no argument: the
 // flags and the number of the line.
 const PARAMS: usize = 40;
 
 const LENT: usize = 56;
+
+pub(crate) const VRAM: usize = 56;
+
+pub(crate) const CGRAM: usize = 57;
+
+pub(crate) const OAM: usize = 58;
+
+pub(crate) const LENT_ROW: usize = 59;
+
+pub(crate) const PICTURE: usize = 60;
+
+pub(crate) const SECOND: usize = 61;
+
+pub(crate) const FILE: usize = 62;
+
+pub(crate) const OUT: usize = 63;
 
 const PORT: usize = 64;
 
@@ -102,7 +128,7 @@ pub(crate) const COUNT: usize = 105;
 const ANY: u64 = 18446744073709551615;
 
 // The greatest value of each cell.
-const MOST: [u64; 112] = [
+const MOST: Cells = [
     255, 255, 65535, 255, 255, 255, 255, 255, 255, 255, 255, 65535, 65535, 65535, 65535, 65535,
     65535, 65535, 65535, 255, 255, 255, 255, 255, 255, 255, 255, 255, 255, 255, 255, 255, 255, 255,
     65535, 255, 255, 1, 0, 0, 65535, 65535, 65535, 65535, 8, 1, 1, 1, 1, 1, 255, 255, 5, 1, 1, 0,
@@ -120,17 +146,20 @@ pub(crate) fn word(v: u64) -> u16 {
 }
 
 // The k-th of some names, which begin at a cell.
-fn named(first: usize, k: usize, names: usize) -> usize
+fn named(first: usize, k: usize, names: usize) -> Option<usize>
     requires { first < 112 }
 {
-    if k < names { first + k % 64 } else { CELLS }
+    if k < names {
+        Some(first + k % 64)
+    } else {
+        None
+    }
 }
 
-// The cell that a name has after a verb: 0, 1, 2 and 3 are the settings of registers, of parameters, of
-// lengths and of the port.
-pub(crate) fn cell_of(verb: usize, s: &[u8], from: usize, to: usize) -> usize {
-    match verb {
-        0 => {
+// The cell that a name has where this is set, or as an argument.
+pub(crate) fn cell_of(set: Option<Setting>, s: &[u8], from: usize, to: usize) -> Option<usize> {
+    match set {
+        Some(Setting::Registers) => {
             let k = place(
                 b"inidisp objsel oamadd bgmode mosaic bg1sc bg2sc bg3sc bg4sc bg12nba bg34nba bg1hofs bg2hofs bg3hofs bg4hofs bg1vofs bg2vofs bg3vofs bg4vofs w12sel w34sel wobjsel wh0 wh1 wh2 wh3 wbglog wobjlog tm ts tmw tsw cgwsel cgadsub coldata setini counter field",
                 s,
@@ -139,7 +168,7 @@ pub(crate) fn cell_of(verb: usize, s: &[u8], from: usize, to: usize) -> usize {
             );
             named(0, k, 38)
         }
-        1 => {
+        Some(Setting::Background) => {
             let k = place(
                 b"map tiles scroll-x scroll-y bpp own w64 h64 side16 mosaic low high layer main sub",
                 s,
@@ -148,15 +177,15 @@ pub(crate) fn cell_of(verb: usize, s: &[u8], from: usize, to: usize) -> usize {
             );
             named(PARAMS, k, 15)
         }
-        2 => {
+        Some(Setting::Lengths) => {
             let k = place(b"vram cgram oam row picture second file out", s, from, to);
             named(LENT, k, 8)
         }
-        3 => {
+        Some(Setting::Port) => {
             let k = place(b"address latch", s, from, to);
             named(PORT, k, 2)
         }
-        _ => {
+        None => {
             let k = place(
                 b"row column to from choice value color layer z prio math clear x9 top tile attr large keep x y bpp index palette main sub subtract half level time range fill step tells count",
                 s,
@@ -168,92 +197,83 @@ pub(crate) fn cell_of(verb: usize, s: &[u8], from: usize, to: usize) -> usize {
     }
 }
 
-// May a cell have this value?
-pub(crate) fn fits(k: usize, value: u64) -> bool {
-    if k < CELLS {
-        return value <= MOST[k];
+// Gives a cell a value; None where it may not have it.
+pub(crate) fn set(c: &mut Cells, k: usize, value: u64) -> Option<()> {
+    if value > *MOST.get(k)? {
+        return None;
     }
-    false
+    *c.get_mut(k)? = value;
+    Some(())
 }
 
 // The lengths that memories have where nothing else is lent.
-fn right(cells: [u64; 112]) -> [u64; 112] {
-    let mut c = cells;
-    c[56] = 32768;
-    c[57] = 256;
-    c[58] = 544;
-    c[59] = 768;
-    c[60] = 172032;
-    c[61] = 172032;
-    c[62] = 66656;
-    c[63] = 66656;
-    c
+fn lend_all(c: &mut Cells) {
+    c[VRAM] = 32768;
+    c[CGRAM] = 256;
+    c[OAM] = 544;
+    c[LENT_ROW] = 768;
+    c[PICTURE] = 172032;
+    c[SECOND] = 172032;
+    c[FILE] = 66656;
+    c[OUT] = 66656;
 }
 
 // Every register and parameter cleared, and the right lengths, at a line.
-pub(crate) fn fresh(line: u64) -> [u64; 112] {
-    let mut c = [0u64; 112];
+pub(crate) fn fresh(line: u64) -> Cells {
+    let mut c = [0; CELLS];
     c[LINE] = line;
-    right(c)
+    lend_all(&mut c);
+    c
 }
 
 // The cells with no argument.
-pub(crate) fn without(cells: [u64; 112]) -> [u64; 112] {
-    let mut c = cells;
-    for k in ARGUMENTS..CELLS {
-        c[k] = 0;
-    }
+pub(crate) fn without(cells: &Cells) -> Cells {
+    let mut c = *cells;
+    c[ARGUMENTS..].fill(0);
     c
 }
 
-// The cells after a statement. The lengths that are lent hold for one line.
-pub(crate) fn after(cells: [u64; 112], line: bool) -> [u64; 112] {
-    if !line {
-        return cells;
-    }
-    let mut c = right(cells);
+// Goes on to the next line. The lengths that are lent hold for one line.
+pub(crate) fn next_line(c: &mut Cells) {
+    lend_all(c);
     c[LINE] = c[LINE] % 1000000 + 1;
-    c
 }
 
-// Byte j of a scene's section of registers is of this cell, divided by this number.
-const CELL: [usize; 48] = [
-    0, 1, 2, 2, 3, 4, 5, 6, 7, 8, 9, 10, 11, 11, 12, 12, 13, 13, 14, 14, 15, 15, 16, 16, 17, 17,
-    18, 18, 19, 20, 21, 22, 23, 24, 25, 26, 27, 28, 29, 30, 31, 32, 33, 34, 34, 35, 36, 37,
-];
-
-const SHARE: [u64; 48] = [
-    1, 1, 1, 256, 1, 1, 1, 1, 1, 1, 1, 1, 1, 256, 1, 256, 1, 256, 1, 256, 1, 256, 1, 256, 1, 256,
-    1, 256, 1, 1, 1, 1, 1, 1, 1, 1, 1, 1, 1, 1, 1, 1, 1, 1, 256, 1, 1, 1,
-];
-
-fn section_byte(c: [u64; 112], j: usize) -> u8 {
-    if j < 48 {
-        let k = CELL[j];
-        if k < CELLS {
-            if SHARE[j] == 1 {
-                return byte(c[k]);
-            }
-            return byte(c[k] / 256);
-        }
+// The registers: their cells are in the order of their names.
+pub(crate) fn registers(c: &Cells) -> PPURegisters {
+    PPURegisters {
+        inidisp: byte(c[0]),
+        objsel: byte(c[1]),
+        oamadd: word(c[2]),
+        bgmode: byte(c[3]),
+        mosaic: byte(c[4]),
+        bgsc: [byte(c[5]), byte(c[6]), byte(c[7]), byte(c[8])],
+        bg12nba: byte(c[9]),
+        bg34nba: byte(c[10]),
+        bg1hofs: word(c[11]),
+        bghofs: [word(c[12]), word(c[13]), word(c[14])],
+        bg1vofs: word(c[15]),
+        bgvofs: [word(c[16]), word(c[17]), word(c[18])],
+        w12sel: byte(c[19]),
+        w34sel: byte(c[20]),
+        wobjsel: byte(c[21]),
+        wh0: byte(c[22]),
+        wh1: byte(c[23]),
+        wh2: byte(c[24]),
+        wh3: byte(c[25]),
+        wbglog: byte(c[26]),
+        wobjlog: byte(c[27]),
+        tm: byte(c[28]),
+        ts: byte(c[29]),
+        tmw: byte(c[30]),
+        tsw: byte(c[31]),
+        cgwsel: byte(c[32]),
+        cgadsub: byte(c[33]),
+        coldata: word(c[34]),
+        setini: byte(c[35]),
+        mosaic_vcounter: byte(c[36]),
+        field: c[37] == 1,
     }
-    0
-}
-
-// The registers as a scene's section has them.
-fn section(c: [u64; 112]) -> [u8; 48]
-    ensures { length result ≡ 48 }
-{
-    let mut bytes = [0u8; 48];
-    for j in 0..48usize {
-        bytes[j] = section_byte(c, j);
-    }
-    bytes
-}
-
-pub(crate) fn registers(c: [u64; 112]) -> PPURegisters {
-    let bytes = section(c);
-    scene_bytes::inner::registers(&bytes)
 }
 
 // BG1 to BG4, sprites, the backdrop.
@@ -276,42 +296,30 @@ pub(crate) fn depth(bpp: u64) -> BitDepth {
     }
 }
 
-pub(crate) fn params(c: [u64; 112]) -> BgParams {
-    let bpp = depth(c[44]);
-    let z_low = Priority::new(byte(c[50]));
-    let z_high = Priority::new(byte(c[51]));
-    let layer = layer(c[52]);
+// The parameters of a background that is drawn by itself.
+pub(crate) fn params(c: &Cells) -> BgParams {
     BgParams {
-        tilemap_base: word(c[40]),
-        tiledata_base: word(c[41]),
-        scroll_x: word(c[42]),
-        scroll_y: word(c[43]),
-        bpp,
-        own_palettes: c[45] == 1,
-        w64: c[46] == 1,
-        h64: c[47] == 1,
-        tile16: c[48] == 1,
-        mosaic: c[49] == 1,
-        z_low,
-        z_high,
-        layer,
-        to_main: c[53] == 1,
-        to_sub: c[54] == 1,
+        tilemap_base: word(c[PARAMS]),
+        tiledata_base: word(c[PARAMS + 1]),
+        scroll_x: word(c[PARAMS + 2]),
+        scroll_y: word(c[PARAMS + 3]),
+        bpp: depth(c[PARAMS + 4]),
+        own_palettes: c[PARAMS + 5] == 1,
+        w64: c[PARAMS + 6] == 1,
+        h64: c[PARAMS + 7] == 1,
+        tile16: c[PARAMS + 8] == 1,
+        mosaic: c[PARAMS + 9] == 1,
+        z_low: Priority::new(byte(c[PARAMS + 10])),
+        z_high: Priority::new(byte(c[PARAMS + 11])),
+        layer: layer(c[PARAMS + 12]),
+        to_main: c[PARAMS + 13] == 1,
+        to_sub: c[PARAMS + 14] == 1,
     }
 }
 
-// A length that is lent, within what there is. Both take the memory, so that what they promise speaks of
-// it, and a part of it needs no proof.
-pub(crate) fn lent(wanted: u64, there: &[u8]) -> usize
-    ensures { IsPrefixLen result there.now }
+// A length that is lent, within what there is.
+pub(crate) fn lent(wanted: u64, there: usize) -> usize
+    ensures { result ≤ there }
 {
-    let n = wanted as usize;
-    if n < there.len() { n } else { there.len() }
-}
-
-pub(crate) fn lent_words(wanted: u64, there: &[u16]) -> usize
-    ensures { IsPrefixLen result there.now }
-{
-    let n = wanted as usize;
-    if n < there.len() { n } else { there.len() }
+    (wanted as usize).min(there)
 }

@@ -1,10 +1,9 @@
 // A file that is salvaged.
+use crate::cells::Cells;
+use crate::say::Said;
 use crate::statement::Statement;
 use crate::{cells, memory, say};
-use salvage::{Change, Changes, Kind};
-
-// The verb.
-const SALVAGE: usize = 51;
+use salvage::{Change, Changes, Kind, salvage};
 
 // Byte i of a scene that is sound and holds nothing but its counts: 48, 544, 512 and 65,536.
 fn sound(i: usize) -> u8 {
@@ -18,90 +17,81 @@ fn sound(i: usize) -> u8 {
     }
 }
 
-// Does a statement say what every byte is?
-fn fills(q: Statement) -> bool {
-    let c = q.cells;
-    (q.count == 0) & ((c[cells::FILL] > 0) | (c[cells::STEP] == 1))
+// Does a statement say what bytes of the file are?
+fn fills(q: &Statement) -> bool {
+    !q.list().is_empty() | (q.cells[cells::FILL] > 0) | (q.cells[cells::STEP] == 1)
 }
 
 // Byte i of the file that a statement describes.
-fn byte(i: usize, q: Statement) -> u8 {
-    if (q.count > 0) | fills(q) {
-        return memory::written_byte(sound(i), i, q);
+fn byte(i: usize, q: &Statement) -> u8 {
+    if fills(q) {
+        memory::written_byte(sound(i), i, q)
+    } else {
+        sound(i)
     }
-    sound(i)
-}
-
-fn fill(file: &mut [u8], q: Statement) {
-    for i in 0..file.len() {
-        file[i] = byte(i, q);
-    }
-}
-
-fn name(text: &[u8], c: Change) {
-    let numbers = [c.first as u64, c.bytes as u64, c.old as u64, c.new as u64];
-    say::told(text, &numbers);
 }
 
 fn change(c: Change) {
-    let kind = c.kind;
-    match kind {
-        Kind::Cut => name(b", cut # # # #", c),
-        Kind::Fill => name(b", fill # # # #", c),
-        Kind::Count => name(b", count # # # #", c),
-        Kind::Value => name(b", value # # # #", c),
-    }
-}
-
-// Is a place blank?
-fn blank(c: Change) -> bool {
-    let kind = c.kind;
-    let cut = match kind {
-        Kind::Cut => true,
-        _ => false,
+    let kind = match c.kind {
+        Kind::Cut => Said::Name(b"cut"),
+        Kind::Fill => Said::Name(b"fill"),
+        Kind::Count => Said::Name(b"count"),
+        Kind::Value => Said::Name(b"value"),
     };
-    cut & (c.first == 0) & (c.bytes == 0) & (c.old == 0) & (c.new == 0)
+    say::told(b", #", &[kind]);
+    say::told(
+        b" # # # #",
+        &[
+            c.first as u64,
+            c.bytes as u64,
+            u64::from(c.old),
+            u64::from(c.new),
+        ]
+        .map(Said::Number),
+    );
 }
 
-// A place of the list: a change, or what a place beyond the list must not hold.
-fn place(c: Change, within: bool) {
-    if within {
-        change(c);
-        return;
+// What a place beyond the list holds.
+const BLANK: Change = Change {
+    kind: Kind::Cut,
+    first: 0,
+    bytes: 0,
+    old: 0,
+    new: 0,
+};
+
+// A list of no change.
+const NONE: Changes = Changes {
+    list: [BLANK; 7],
+    count: 0,
+};
+
+fn listed(changes: &Changes) {
+    say::told(b", changes #", &[Said::Number(changes.count as u64)]);
+    for (k, c) in changes.list.iter().enumerate() {
+        if k < changes.count {
+            change(*c);
+        } else if *c != BLANK {
+            io::write_all(1, b" and more");
+        }
     }
-    if !blank(c) {
-        io::write_all(1, b" and more");
-    }
 }
 
-fn listed(changes: Changes) {
-    let numbers = [changes.count as u64];
-    say::told(b", changes #", &numbers);
-    for k in 0..7usize {
-        place(changes.list[k], k < changes.count);
-    }
+fn salvaged(out: &mut [u8], file: &[u8], c: &Cells) {
+    let n = cells::lent(c[cells::OUT], out.len());
+    let answer = salvage(
+        &mut out[..n],
+        &file[..cells::lent(c[cells::FILE], file.len())],
+    );
+    say::drawn(answer.map(|_| ()), out, c[cells::OUT], c, c[cells::ROW]);
+    listed(&answer.unwrap_or(NONE));
 }
 
-fn salvaged(out: &mut [u8], file: &[u8], c: [u64; 112]) {
-    let m = cells::lent(c[63], out);
-    let n = cells::lent(c[62], file);
-    let answer = salvage::salvage(&mut out[..m], &file[..n]);
-    let verdict = answer.verdict;
-    let changes = answer.changes;
-    say::drawn(verdict, out, c[63], c, c[cells::ROW]);
-    listed(changes);
-}
-
-fn salvage_file(q: Statement) {
+pub(crate) fn salvage_file(q: &Statement) {
     let mut file = [0u8; 70000];
     let mut out = [7u8; 66657];
-    let c = q.cells;
-    fill(&mut file, q);
-    salvaged(&mut out, &file, c);
-}
-
-pub(crate) fn ask(q: Statement) {
-    if q.verb == SALVAGE {
-        salvage_file(q);
+    for (i, held) in file.iter_mut().enumerate() {
+        *held = byte(i, q);
     }
+    salvaged(&mut out, &file, &q.cells);
 }

@@ -1,173 +1,150 @@
 // Both lines, and what is laid over them.
+use crate::cells::Cells;
+use crate::memory::Lent;
+use crate::say::Said;
 use crate::statement::among;
 use crate::{cells, say};
-use line_laying::LinesAnswer;
-use line_pixels::inner::pick;
-use line_pixels::{Candidate, LinePixel, Lines, Priority};
+use base_refusal::Refusal;
+use bg_layer::render_bg_scanline;
+use line_pixels::{Candidate, Layer, LinePixel, Lines, Priority, deposit};
+use row_composite::composite_line;
+use row_layers::{backdrop_lines, render_layer};
+use sprite_layer::render_sprites;
 use test_replay::pixels::same;
 
+// What a statement does with the lines.
+#[derive(Clone, Copy)]
+pub(crate) enum Step {
+    Lines,
+    Main,
+    Sub,
+    Backdrops,
+    Background,
+    Sprites,
+    Layer,
+    Composite,
+    Deposit,
+}
+
 // The pixel that a statement describes.
-fn pixel_of(c: [u64; 112]) -> LinePixel {
-    let layer = cells::layer(c[cells::LAYER]);
-    let z = priority_of(c);
+fn pixel_of(c: &Cells) -> LinePixel {
     LinePixel {
         color: cells::word(c[cells::COLOR]),
-        z,
-        layer,
+        z: priority_of(c),
+        layer: cells::layer(c[cells::LAYER]),
         obj_math: c[cells::MATH] == 1,
     }
 }
 
 // The priority z; a sprite's is that of its bits where z is 0.
-fn priority_of(c: [u64; 112]) -> Priority {
-    if (c[cells::LAYER] == 4) & (c[cells::Z] == 0) {
+fn priority_of(c: &Cells) -> Priority {
+    let sprite = cells::layer(c[cells::LAYER]) == Layer::Obj;
+    if sprite & (c[cells::Z] == 0) {
         return Priority::obj(cells::byte(c[cells::PRIO]));
     }
     Priority::new(cells::byte(c[cells::Z]))
 }
 
-// A line with a pixel in some columns.
-fn put(before: [LinePixel; 256], n: u64, c: [u64; 112]) -> [LinePixel; 256] {
-    let p = pixel_of(c);
-    let mut line = before;
-    for x in 0..256usize {
-        line[x] = pick(among(n, c, x), p, line[x]);
+// Puts a pixel in some columns of a line.
+fn put(line: &mut [LinePixel; 256], n: u64, c: &Cells) {
+    let pixel = pixel_of(c);
+    for (x, held) in line.iter_mut().enumerate() {
+        if among(n, c, x) {
+            *held = pixel;
+        }
     }
-    line
-}
-
-fn with_main(lines: Lines, n: u64, c: [u64; 112]) -> Lines {
-    let before = lines.main;
-    let main = put(before, n, c);
-    let sub = lines.sub;
-    Lines { main, sub }
-}
-
-fn with_sub(lines: Lines, n: u64, c: [u64; 112]) -> Lines {
-    let before = lines.sub;
-    let sub = put(before, n, c);
-    let main = lines.main;
-    Lines { main, sub }
 }
 
 // The columns in which one of the lines changed.
-fn changed(before: Lines, after: Lines) -> u64 {
-    let main = before.main;
-    let sub = before.sub;
-    let over = after.main;
-    let under = after.sub;
-    let mut n: u64 = 0;
-    for x in 0..256usize {
-        let kept = same(main[x], over[x]) & same(sub[x], under[x]);
-        n = n % 512 + test_digest::one(!kept);
-    }
-    n
+fn changed(before: &Lines, after: &Lines) -> usize {
+    (0..256)
+        .filter(|&x| !same(before.main[x], after.main[x]) | !same(before.sub[x], after.sub[x]))
+        .count()
 }
 
 // Writes of the lines how many columns changed, or one column.
-fn told(before: Lines, after: Lines, c: [u64; 112]) {
+fn told(before: &Lines, after: &Lines, c: &Cells) {
     if c[cells::COUNT] == 1 {
-        let numbers = [changed(before, after)];
-        say::told(b"# columns changed", &numbers);
+        say::told(
+            b"# columns changed",
+            &[Said::Number(changed(before, after) as u64)],
+        );
         return;
     }
-    let main = after.main;
-    let sub = after.sub;
     let x = (c[cells::COLUMN] % 256) as usize;
-    say::pixel(b"main # # # math#", main[x]);
-    say::pixel(b", sub # # # math#", sub[x]);
+    say::pixel(b"main # # # math#", after.main[x]);
+    say::pixel(b", sub # # # math#", after.sub[x]);
 }
 
-// Writes what a call left of the lines, and hands on what is kept.
-fn left(before: Lines, answer: LinesAnswer, c: [u64; 112]) -> Lines {
-    let verdict = answer.verdict;
-    let after = answer.lines;
-    say::verdict(verdict);
-    told(before, after, c);
+// Writes what a call left of the lines, and keeps it where that is asked.
+fn keep(lines: &mut Lines, answer: Result<(), Refusal>, after: &Lines, c: &Cells) {
+    say::begun(answer, ());
+    told(lines, after, c);
     if c[cells::KEEP] == 1 {
-        return after;
+        *lines = *after;
     }
-    before
+}
+
+fn backdrops(lines: &mut Lines, lent: Lent<'_>, c: &Cells) {
+    let answer = backdrop_lines(lent.cgram, cells::registers(c));
+    let after = answer.unwrap_or(Lines::backdrops(0, 0));
+    keep(lines, answer.map(|_| ()), &after, c);
+}
+
+fn background(lines: &mut Lines, lent: Lent<'_>, c: &Cells) {
+    let r = cells::registers(c);
+    let p = cells::params(c);
+    let y = c[cells::ROW] as usize;
+    let mut after = *lines;
+    let answer = render_bg_scanline(&mut after, lent.vram, lent.cgram, r, p, y);
+    keep(lines, answer, &after, c);
+}
+
+fn sprites(lines: &mut Lines, lent: Lent<'_>, c: &Cells) {
+    let r = cells::registers(c);
+    let y = c[cells::ROW] as usize;
+    let mut after = *lines;
+    let answer = render_sprites(&mut after, lent.vram, lent.cgram, lent.oam, r, y);
+    keep(lines, answer, &after, c);
+}
+
+fn layer(lines: &mut Lines, lent: Lent<'_>, c: &Cells, layer: usize) {
+    let r = cells::registers(c);
+    let y = c[cells::ROW] as usize;
+    let mut after = *lines;
+    let answer = render_layer(&mut after, lent.vram, lent.cgram, lent.oam, r, y, layer);
+    keep(lines, answer, &after, c);
 }
 
 // Writes the row that the lines make.
-fn composed(row: &mut [u8], lines: Lines, c: [u64; 112]) {
-    let n = cells::lent(c[59], row);
-    let verdict = row_composite::composite_line(&mut row[..n], lines, cells::registers(c));
-    say::drawn(verdict, row, c[59], c, 0);
-}
-
-fn composite(lines: Lines, c: [u64; 112]) -> Lines {
-    let mut row = [7u8; 769];
-    composed(&mut row, lines, c);
-    lines
+fn composite(row: &mut [u8], lines: &Lines, c: &Cells) {
+    let n = cells::lent(c[cells::LENT_ROW], row.len());
+    let answer = composite_line(&mut row[..n], lines, cells::registers(c));
+    say::drawn(answer, row, c[cells::LENT_ROW], c, 0);
 }
 
 // A candidate that comes to what main holds at a column.
-fn deposited(lines: Lines, c: [u64; 112]) -> Lines {
-    let main = lines.main;
-    let x = (c[cells::COLUMN] % 256) as usize;
-    let pixel = pixel_of(c);
-    let opaque = c[cells::CLEAR] == 0;
-    say::pixel(
-        b" -> # # # math#",
-        line_pixels::deposit(main[x], Candidate { opaque, pixel }),
-    );
-    lines
+fn deposited(lines: &Lines, c: &Cells) {
+    let held = lines.main[(c[cells::COLUMN] % 256) as usize];
+    let candidate = Candidate {
+        opaque: c[cells::CLEAR] == 0,
+        pixel: pixel_of(c),
+    };
+    say::pixel(b" -> # # # math#", deposit(held, candidate));
 }
 
-fn drawn(
-    lines: Lines,
-    vram: &[u16],
-    cgram: &[u16],
-    oam: &[u8],
-    verb: usize,
-    n: u64,
-    c: [u64; 112],
-) -> LinesAnswer {
-    let r = cells::registers(c);
-    let y = c[cells::ROW] as usize;
-    match verb {
-        19 => row_layers::backdrop_lines(cgram, r),
-        20 => bg_layer::render_bg_scanline(lines, vram, cgram, r, cells::params(c), y),
-        21 => sprite_layer::render_sprites(lines, vram, cgram, oam, r, y),
-        _ => row_layers::render_layer(lines, vram, cgram, oam, r, y, n as usize),
-    }
-}
-
-fn lent(
-    lines: Lines,
-    vram: &[u16],
-    cgram: &[u16],
-    oam: &[u8],
-    verb: usize,
-    n: u64,
-    c: [u64; 112],
-) -> Lines {
-    let v = cells::lent_words(c[56], vram);
-    let g = cells::lent_words(c[57], cgram);
-    let o = cells::lent(c[58], oam);
-    let answer = drawn(lines, &vram[..v], &cgram[..g], &oam[..o], verb, n, c);
-    left(lines, answer, c)
-}
-
-// The lines after a statement.
-pub(crate) fn ask(
-    lines: Lines,
-    vram: &[u16],
-    cgram: &[u16],
-    oam: &[u8],
-    verb: usize,
-    n: u64,
-    c: [u64; 112],
-) -> Lines {
-    match verb {
-        16 => Lines::backdrops(cells::word(c[cells::MAIN]), cells::word(c[cells::SUB])),
-        17 => with_main(lines, n, c),
-        18 => with_sub(lines, n, c),
-        19..=22 => lent(lines, vram, cgram, oam, verb, n, c),
-        23 => composite(lines, c),
-        24 => deposited(lines, c),
-        _ => lines,
+pub(crate) fn ask(step: Step, n: u64, lines: &mut Lines, lent: Lent<'_>, c: &Cells) {
+    match step {
+        Step::Lines => {
+            *lines = Lines::backdrops(cells::word(c[cells::MAIN]), cells::word(c[cells::SUB]));
+        }
+        Step::Main => put(&mut lines.main, n, c),
+        Step::Sub => put(&mut lines.sub, n, c),
+        Step::Backdrops => backdrops(lines, lent, c),
+        Step::Background => background(lines, lent, c),
+        Step::Sprites => sprites(lines, lent, c),
+        Step::Layer => layer(lines, lent, c, n as usize),
+        Step::Composite => composite(&mut [7; 769], lines, c),
+        Step::Deposit => deposited(lines, c),
     }
 }

@@ -2,8 +2,61 @@
 ghost use Rattle.std.specs.Prelude.{◌≤◌};
 
 use crate::cells;
+use crate::cells::Cells;
 use crate::statement::{Statement, among};
 use test_digest::second_table_byte;
+
+// What can be written.
+#[derive(Clone, Copy)]
+pub(crate) enum Target {
+    Vram,
+    Cgram,
+    Oam,
+    Sprites,
+}
+
+// The memories, each with one element more than its right length.
+#[derive(Clone, Copy)]
+pub(crate) struct Memories {
+    vram: [u16; 32769],
+    cgram: [u16; 257],
+    pub(crate) oam: [u8; 545],
+}
+
+// What is lent of them.
+#[derive(Clone, Copy)]
+pub(crate) struct Lent<'a> {
+    pub(crate) vram: &'a [u16],
+    pub(crate) cgram: &'a [u16],
+    pub(crate) oam: &'a [u8],
+}
+
+impl Memories {
+    pub(crate) fn new() -> Memories {
+        Memories {
+            vram: [0; 32769],
+            cgram: [0; 257],
+            oam: [0; 545],
+        }
+    }
+
+    pub(crate) fn lent(&self, c: &Cells) -> Lent<'_> {
+        Lent {
+            vram: &self.vram[..cells::lent(c[cells::VRAM], self.vram.len())],
+            cgram: &self.cgram[..cells::lent(c[cells::CGRAM], self.cgram.len())],
+            oam: &self.oam[..cells::lent(c[cells::OAM], self.oam.len())],
+        }
+    }
+
+    pub(crate) fn write(&mut self, target: Target, q: &Statement) {
+        match target {
+            Target::Vram => words(&mut self.vram, q),
+            Target::Cgram => words(&mut self.cgram, q),
+            Target::Oam => bytes(&mut self.oam, q),
+            Target::Sprites => sprites(&mut self.oam, q.first(), &q.cells),
+        }
+    }
+}
 
 // What an index has in a plane pair, at the tile's leftmost pixel.
 fn planes(index: u16, pair: u16) -> u16
@@ -26,60 +79,48 @@ fn told(at: u16) -> u16 {
     number + place + third + planes(6, pair) / 64 + planes(7, pair) / 128
 }
 
-// A word of a filled memory: one value, or each one more than the word before it.
-fn filled(i: usize, first: u64, step: bool, tells: bool) -> u16 {
-    if tells {
-        return told((i % 65536) as u16);
-    }
-    if step {
-        return ((first % 65536 + i as u64 % 65536) % 65536) as u16;
-    }
-    cells::word(first)
-}
-
-// Fills a memory by what the statement says, or writes its numbers from its first one on.
-fn words(memory: &mut [u16], q: Statement) {
-    for i in 0..memory.len() {
-        memory[i] = written(memory[i], i, q);
+// A word of a memory that is filled with one value, with each one more than the word before it, or with
+// tiles that show which they are.
+fn filled(i: usize, c: &Cells) -> u16 {
+    let at = (i % 65536) as u16;
+    let first = cells::word(c[cells::FILL]);
+    if c[cells::TELLS] == 1 {
+        told(at)
+    } else if c[cells::STEP] == 1 {
+        first.wrapping_add(at)
+    } else {
+        first
     }
 }
 
-// What a place holds after the statement.
-fn written(before: u16, i: usize, q: Statement) -> u16 {
-    let c = q.cells;
-    if q.count == 0 {
-        return filled(i, c[cells::FILL], c[cells::STEP] == 1, c[cells::TELLS] == 1);
-    }
-    let list = q.list;
-    let k = at(i as u64, list[0], q.count);
-    if k < 16 {
-        return cells::word(list[k]);
-    }
-    before
+// What a place holds after the statement, which fills a memory, or writes its numbers from its first one
+// on.
+fn written(before: u16, i: usize, q: &Statement) -> u16 {
+    let Some((first, values)) = q.list().split_first() else {
+        return filled(i, &q.cells);
+    };
+    let Some(k) = (i as u64).checked_sub(*first) else {
+        return before;
+    };
+    values
+        .get(k as usize)
+        .map_or(before, |value| cells::word(*value))
 }
 
-pub(crate) fn written_byte(before: u8, i: usize, q: Statement) -> u8 {
-    (written(before as u16, i, q) % 256) as u8
+pub(crate) fn written_byte(before: u8, i: usize, q: &Statement) -> u8 {
+    (written(u16::from(before), i, q) % 256) as u8
 }
 
-// Where in a list of numbers, of which the first is a place, that for place i stands; 16 for none.
-fn at(i: u64, from: u64, count: usize) -> usize {
-    if i < from {
-        return 16;
+fn words(memory: &mut [u16], q: &Statement) {
+    for (i, word) in memory.iter_mut().enumerate() {
+        *word = written(*word, i, q);
     }
-    let k = i - from;
-    if k < 15 {
-        if (k as usize) + 1 < count {
-            return k as usize + 1;
-        }
-    }
-    16
 }
 
 // The same of bytes.
-fn bytes(memory: &mut [u8], q: Statement) {
-    for i in 0..memory.len() {
-        memory[i] = written_byte(memory[i], i, q);
+fn bytes(memory: &mut [u8], q: &Statement) {
+    for (i, byte) in memory.iter_mut().enumerate() {
+        *byte = written_byte(*byte, i, q);
     }
 }
 
@@ -89,55 +130,33 @@ fn high(x9: u64, large: u64) -> u8 {
 }
 
 // Byte i of the first table, of a sprite that the statement describes.
-fn described(c: [u64; 112], i: usize) -> u8 {
-    match i % 4 {
-        0 => cells::byte(c[cells::X9]),
-        1 => cells::byte(c[cells::TOP]),
-        2 => cells::byte(c[cells::TILE]),
-        _ => cells::byte(c[cells::ATTR]),
-    }
+fn described(c: &Cells, i: usize) -> u8 {
+    let bytes = [c[cells::X9], c[cells::TOP], c[cells::TILE], c[cells::ATTR]];
+    cells::byte(bytes[i % 4])
 }
 
 // Writes one sprite or several.
-fn sprites(oam: &mut [u8], n: u64, c: [u64; 112]) {
-    for i in 0..oam.len() {
-        oam[i] = with_sprites(oam[i], i, n, c);
+fn sprites(oam: &mut [u8; 545], n: u64, c: &Cells) {
+    for (i, byte) in oam.iter_mut().enumerate() {
+        *byte = with_sprites(*byte, i, n, c);
     }
 }
 
 // What a byte of sprite memory holds after them.
-fn with_sprites(before: u8, i: usize, n: u64, c: [u64; 112]) -> u8 {
+fn with_sprites(before: u8, i: usize, n: u64, c: &Cells) -> u8 {
     if i < 512 {
-        if among(n, c, i / 4) {
-            return described(c, i);
-        }
-        return before;
+        return if among(n, c, i / 4) {
+            described(c, i)
+        } else {
+            before
+        };
     }
     let bits = high(c[cells::X9], c[cells::LARGE]);
-    let first = i % 512 * 4;
-    let one = part(before, 0, bits, among(n, c, first));
-    let two = part(one, 1, bits, among(n, c, first + 1));
-    let three = part(two, 2, bits, among(n, c, first + 2));
-    part(three, 3, bits, among(n, c, first + 3))
-}
-
-// A byte of the second table, with a sprite's bits where it is one that is written.
-fn part(byte: u8, sprite: usize, bits: u8, written: bool) -> u8 {
-    if written {
-        return second_table_byte(byte, sprite, bits);
+    let mut byte = before;
+    for k in 0..4 {
+        if among(n, c, i % 512 * 4 + k) {
+            byte = second_table_byte(byte, k, bits);
+        }
     }
     byte
-}
-
-pub(crate) fn write(vram: &mut [u16], cgram: &mut [u16], oam: &mut [u8], q: Statement) {
-    let verb = q.verb;
-    let list = q.list;
-    let c = q.cells;
-    match verb {
-        5 => words(vram, q),
-        6 => words(cgram, q),
-        7 => bytes(oam, q),
-        8 => sprites(oam, list[0], c),
-        _ => {}
-    }
 }

@@ -1,228 +1,191 @@
-// Writing an answer: a text in which each # stands for a number.
+// Writing an answer: a text in which each # stands for what is said there.
 use crate::cells;
-use base_refusal::{Refusal, Verdict};
-use line_laying::CandidatesAnswer;
+use crate::cells::Cells;
+use base_refusal::Refusal;
+use line_laying::Candidates;
+use line_pixels::inner::rank;
 use line_pixels::{Candidate, Layer, LinePixel, Priority};
-use registers::{BoolAnswer, WordAnswer};
-use test_digest::one;
-use test_script::{Stop, seek};
 
-// A number below this is written as it is. A greater one is a kind, times this, and a value.
-const KIND: u64 = 0x100000000;
-
-// A refusal, by its number.
-const REFUSED: u64 = 0x100000000;
-
-// A name, by its place in the list of names.
-const NAME: u64 = 0x200000000;
-
-pub(crate) const NONE: u64 = 0x200000006;
-
-pub(crate) const NO_DIGITS: u64 = 0x200000007;
-
-// A number below 0, without its sign.
-pub(crate) const MINUS: u64 = 0x300000000;
-
-// A byte in two digits.
-pub(crate) const DIGITS: u64 = 0x400000000;
-
-// Nothing: only the text before it is written.
-const NOTHING: u64 = 0x500000000;
-
-// Left out, together with the text before it.
-pub(crate) const LEFT_OUT: u64 = 0x600000000;
+// What is said at a # of a text.
+#[derive(Clone, Copy)]
+pub(crate) enum Said {
+    Number(u64),
+    // A number with its sign.
+    Signed(i16),
+    // A byte in two digits.
+    Digits(u8),
+    Name(&'static [u8]),
+    Refused(Refusal),
+    // Only the text before it is written.
+    Nothing,
+    // Left out, together with the text before it.
+    LeftOut,
+}
 
 // Writes a part of a text.
 pub(crate) fn part(text: &[u8], from: usize, to: usize) {
-    if from <= to {
-        if to <= text.len() {
-            io::write_all(1, &text[from..to]);
-        }
+    if let Some(part) = text.get(from..to) {
+        io::write_all(1, part);
     }
 }
 
-// Writes the k-th of the names.
-fn name(k: u64) {
-    let names = b"BG1      BG2      BG3      BG4      OBJ      backdrop none     --";
-    let from = (k % 8 * 9) as usize;
-    part(names, from, seek(names, from, Stop::End));
-}
-
-fn value(n: u64) {
-    let low = n % KIND;
-    match n / KIND {
-        0 => {
-            io::print_decimal(1, low);
+fn write(said: Said) {
+    match said {
+        Said::Number(n) => {
+            io::print_decimal(1, n);
         }
-        1 => {
+        Said::Signed(n) => {
+            if n < 0 {
+                io::write_all(1, b"-");
+            }
+            io::print_decimal(1, u64::from(n.unsigned_abs()));
+        }
+        Said::Digits(byte) => {
+            io::print_hex(1, u64::from(byte), 2);
+        }
+        Said::Name(name) => {
+            io::write_all(1, name);
+        }
+        Said::Refused(r) => {
             io::write_all(1, b"refused ");
-            io::print_decimal(1, low);
+            io::print_decimal(1, u64::from(r.number()));
         }
-        2 => name(low),
-        3 => {
-            io::write_all(1, b"-");
-            io::print_decimal(1, low);
-        }
-        4 => {
-            io::print_hex(1, low % 256, 2);
-        }
-        _ => {}
+        Said::Nothing | Said::LeftOut => {}
     }
 }
 
-// The next # of a text from a place on.
-fn mark(text: &[u8], from: usize) -> usize {
-    for i in from..text.len() {
-        if text[i] == b'#' {
-            return i;
+// Writes a part of a text, and what is said at its end.
+fn item(text: &[u8], said: Option<Said>) {
+    match said {
+        Some(Said::LeftOut) => {}
+        Some(n) => {
+            io::write_all(1, text);
+            write(n);
+        }
+        None => {
+            io::write_all(1, text);
         }
     }
-    text.len()
 }
 
-// Writes a text from a place up to its next number, and that; answers the place after it.
-fn item(text: &[u8], from: usize, n: u64) -> usize {
-    let to = mark(text, from);
-    if n < LEFT_OUT {
-        part(text, from, to);
-        value(n);
+// Writes a text, and at each of its # what is said there.
+pub(crate) fn told(text: &[u8], said: &[Said]) {
+    let mut rest = said.iter();
+    for part in text.split(|b| *b == b'#') {
+        item(part, rest.next().copied());
     }
-    if to < text.len() { to + 1 } else { to }
 }
 
-// Writes a text and its numbers.
-pub(crate) fn told(text: &[u8], numbers: &[u64]) {
-    let mut at: usize = 0;
-    for k in 0..numbers.len() {
-        at = item(text, at, numbers[k]);
+// Writes the whole of an answer.
+pub(crate) fn single(said: Said) {
+    told(b" -> #", &[said]);
+}
+
+// A number, or the refusal of it.
+pub(crate) fn number(answer: Result<u64, Refusal>) -> Said {
+    match answer {
+        Ok(n) => Said::Number(n),
+        Err(r) => Said::Refused(r),
     }
-    part(text, at, text.len());
 }
 
-// Writes one number as the answer.
-pub(crate) fn single(n: u64) {
-    let numbers = [n];
-    told(b" -> #", &numbers);
-}
-
-pub(crate) fn refused(r: Refusal) -> u64 {
-    REFUSED + r.number() as u64
-}
-
-// Begins an answer in which a refusal stands before what comes back beside it.
-pub(crate) fn verdict(v: Verdict) {
-    match v {
-        Verdict::Fine => {
+// Begins an answer in which a refusal stands before what is told beside it: what is answered, or on a
+// refusal something else.
+pub(crate) fn begun<T: Copy>(answer: Result<T, Refusal>, other: T) -> T {
+    match answer {
+        Ok(x) => {
             io::write_all(1, b" -> ");
+            x
         }
-        Verdict::Refused(r) => {
-            single(refused(r));
-            io::write_all(1, b", ");
+        Err(r) => {
+            told(b" -> #, ", &[Said::Refused(r)]);
+            other
         }
     }
 }
 
-pub(crate) fn truth(answer: BoolAnswer) -> u64 {
-    match answer {
-        BoolAnswer::Is(b) => one(b),
-        BoolAnswer::Refused(r) => refused(r),
-    }
-}
-
-pub(crate) fn word(answer: WordAnswer) -> u64 {
-    match answer {
-        WordAnswer::Is(n) => n as u64,
-        WordAnswer::Refused(r) => refused(r),
-    }
-}
-
-pub(crate) fn layer(l: Layer) -> u64 {
+pub(crate) fn layer(l: Layer) -> Said {
     match l {
-        Layer::Bg1 => NAME,
-        Layer::Bg2 => NAME + 1,
-        Layer::Bg3 => NAME + 2,
-        Layer::Bg4 => NAME + 3,
-        Layer::Obj => NAME + 4,
-        Layer::Backdrop => NAME + 5,
+        Layer::Bg1 => Said::Name(b"BG1"),
+        Layer::Bg2 => Said::Name(b"BG2"),
+        Layer::Bg3 => Said::Name(b"BG3"),
+        Layer::Bg4 => Said::Name(b"BG4"),
+        Layer::Obj => Said::Name(b"OBJ"),
+        Layer::Backdrop => Said::Name(b"backdrop"),
     }
 }
 
 pub(crate) fn priority(z: Priority) -> u64 {
-    let rank = line_pixels::inner::rank(z) as u64;
-    if rank > 0 { rank - 1 } else { 0 }
-}
-
-// Is what stands before a number shown?
-fn shown(on: bool) -> u64 {
-    if on { NOTHING } else { LEFT_OUT }
+    u64::from(rank(z) - 1)
 }
 
 // Writes a pixel, if there is one: its colour, its layer and its priority, and whether it has the math
 // mark.
 pub(crate) fn candidate(text: &[u8], c: Candidate) {
-    let p = c.pixel;
     if c.opaque {
-        pixel(text, p);
+        pixel(text, c.pixel);
         return;
     }
-    let numbers = [NONE, LEFT_OUT, LEFT_OUT, LEFT_OUT];
-    told(text, &numbers);
+    let none = Said::Name(b"none");
+    told(text, &[none, Said::LeftOut, Said::LeftOut, Said::LeftOut]);
 }
 
 pub(crate) fn pixel(text: &[u8], p: LinePixel) {
-    let l = p.layer;
-    let z = p.z;
-    let numbers = [p.color as u64, layer(l), priority(z), shown(p.obj_math)];
-    told(text, &numbers);
+    let color = Said::Number(u64::from(p.color));
+    let z = Said::Number(priority(p.z));
+    let math = if p.obj_math {
+        Said::Nothing
+    } else {
+        Said::LeftOut
+    };
+    told(text, &[color, layer(p.layer), z, math]);
 }
 
-pub(crate) fn candidates(answer: CandidatesAnswer) {
+pub(crate) fn candidates(answer: Result<Candidates, Refusal>) {
     match answer {
-        CandidatesAnswer::Is(c) => {
-            let main = c.main;
-            let sub = c.sub;
-            candidate(b" -> main # # # math#", main);
-            candidate(b", sub # # # math#", sub);
+        Ok(c) => {
+            candidate(b" -> main # # # math#", c.main);
+            candidate(b", sub # # # math#", c.sub);
         }
-        CandidatesAnswer::Refused(r) => single(refused(r)),
+        Err(r) => single(Said::Refused(r)),
     }
+}
+
+// How many bytes are a value.
+pub(crate) fn count(bytes: &[u8], value: u8) -> usize {
+    bytes.iter().filter(|b| **b == value).count()
 }
 
 // The bytes of a lent row or picture, each 7 before: how many changed, the first of them or the
 // length, how many are 0, and how many are a value.
 fn counts(lent: &[u8], value: u8) {
-    let mut changed: u64 = 0;
-    let mut first: u64 = 0;
-    let mut black: u64 = 0;
-    let mut same: u64 = 0;
-    for i in 0..lent.len() {
-        let b = lent[i];
-        changed = changed % 262144 + one(b != 7);
-        first = first % 262144 + one(changed == 0);
-        black = black % 262144 + one(b == 0);
-        same = same % 262144 + one(b == value);
-    }
-    let numbers = [changed, first, black, same];
-    told(b"# changed, first #, black #, value #", &numbers);
-}
-
-// A byte of a memory as a number of an answer.
-pub(crate) fn wide(b: u8) -> u64 {
-    b as u64
+    let changed = lent.iter().filter(|b| **b != 7).count();
+    let first = lent.iter().position(|b| *b != 7).unwrap_or(lent.len());
+    let black = count(lent, 0);
+    told(
+        b"# changed, first #, black #, value #",
+        &[
+            changed as u64,
+            first as u64,
+            black as u64,
+            count(lent, value) as u64,
+        ]
+        .map(Said::Number),
+    );
 }
 
 // A column of three bytes.
 fn column(text: &[u8], lent: &[u8], at: usize) {
-    if at < lent.len() {
-        if lent.len() - at > 2 {
-            let numbers = [wide(lent[at]), wide(lent[at + 1]), wide(lent[at + 2])];
-            told(text, &numbers);
-        }
+    if let Some([red, green, blue, ..]) = lent.get(at..) {
+        told(
+            text,
+            &[u64::from(*red), u64::from(*green), u64::from(*blue)].map(Said::Number),
+        );
     }
 }
 
 // What a call left of a lent row or picture: the counts of its bytes, or a column of a row and the next.
-fn left(lent: &[u8], c: [u64; 112], row: u64) {
+fn left(lent: &[u8], c: &Cells, row: u64) {
     if c[cells::COUNT] == 1 {
         counts(lent, cells::byte(c[cells::VALUE]));
         return;
@@ -233,8 +196,7 @@ fn left(lent: &[u8], c: [u64; 112], row: u64) {
 }
 
 // The same, of what was lent of a memory.
-pub(crate) fn drawn(v: Verdict, memory: &[u8], wanted: u64, c: [u64; 112], row: u64) {
-    verdict(v);
-    let n = cells::lent(wanted, memory);
-    left(&memory[..n], c, row);
+pub(crate) fn drawn(v: Result<(), Refusal>, memory: &[u8], wanted: u64, c: &Cells, row: u64) {
+    begun(v, ());
+    left(&memory[..cells::lent(wanted, memory.len())], c, row);
 }

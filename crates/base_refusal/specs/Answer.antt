@@ -1,5 +1,5 @@
 -- What a call that may refuse answers, in terms of the rules: a value, or a refusal's number.
--- For each answer enum of a crate a definition gives its meaning here, case by case, and the promises use that definition.
+-- What a result of the code means here is a definition too (Results), and the promises use it.
 use Rattle.std.specs.Prelude.{ℕ, Bool, true, false}
 
 pub data Answer (A : Type 0) : Type 0 where

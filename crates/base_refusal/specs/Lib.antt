@@ -1,5 +1,5 @@
 pub mod Numbers
 pub mod Answer
-pub mod Verdicts
+pub mod Results
 pub mod theorems
 pub mod steps

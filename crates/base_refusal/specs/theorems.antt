@@ -1,3 +1,3 @@
 pub mod Numbers
-pub mod Verdicts
+pub mod Results
 pub mod Settled

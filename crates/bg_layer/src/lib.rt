@@ -4,40 +4,36 @@
 
 pub mod inner;
 
-ghost use Rattle.std.specs.Prelude.{◌≡◌, true, ◌&&◌};
-ghost use Rattle.base_refusal.specs.Verdicts.{verdict_means, Passed};
+ghost use Rattle.std.specs.Prelude.{◌≡◌, true, ◌&&◌, length, IfOk};
+ghost use Rattle.base_refusal.specs.Results.{means};
+ghost use Rattle.base_refusal.specs.steps.Said.{said_of};
 ghost use Rattle.row_tests.specs.Tests.{bg_tests};
-ghost use Rattle.line_laying.specs.Answers.{candidates_mean, lines_mean};
 ghost use Rattle.bg_row.specs.steps.Row.{BgRowSound};
 ghost use Rattle.bg_layer.specs.Background.{is_background, bg_candidates_answer, bg_laid_outcome};
 
-use base_refusal::Verdict;
+use base_refusal::Refusal;
 use bg_map::BgParams;
-use line_laying::{CandidatesAnswer, LinesAnswer};
+use line_laying::Candidates;
 use line_pixels::inner::bg_index;
 use line_pixels::{Layer, Lines};
 use registers::PPURegisters;
 use registers::constants::{BACKGROUNDS, SCREEN_WIDTH};
 use row_tests::inner::bg_tested;
 
-// The tests of both calls; `column` says that the column is in its range.
-fn tested(
+// The tests of both calls; `column` says that the column is in its range. Colour memory is handed on.
+fn tested<'a>(
     y: usize,
     words: usize,
-    colours: usize,
+    cgram: &'a [u16],
     counter: u8,
     column: bool,
     layer: Layer,
-) -> Verdict
-    ensures { (verdict_means result ≡ bg_tests y words colours counter (column && is_background layer)) × (Passed result → BgRowSound colours layer y × (column ≡ true)) }
+) -> Result<&'a [u16; 256], Refusal>
+    ensures said { said_of result ≡ bg_tests y words (length cgram.now) counter (column && is_background layer) }
+    ensures held { IfOk result (λ g. (g.now ≡ cgram.now) × (BgRowSound layer y × (column ≡ true))) }
 {
-    bg_tested(
-        y,
-        words,
-        colours,
-        counter,
-        column & (bg_index(layer) < BACKGROUNDS),
-    )
+    let background = bg_index(layer) < BACKGROUNDS;
+    bg_tested(y, words, cgram, counter, column & background)
 }
 
 // The candidates of a background at column x of row y, on both screens.
@@ -48,40 +44,26 @@ pub fn bg_candidates(
     p: BgParams,
     x: usize,
     y: usize,
-) -> CandidatesAnswer
-    ensures { candidates_mean result ≡ bg_candidates_answer vram.now cgram.now r p y x }
+) -> Result<Candidates, Refusal>
+    ensures { means result ≡ bg_candidates_answer vram.now cgram.now r p y x }
 {
-    let layer = p.layer;
     let column = x < SCREEN_WIDTH;
-    match tested(y, vram.len(), cgram.len(), r.mosaic_vcounter, column, layer) {
-        Verdict::Fine => CandidatesAnswer::Is(inner::candidates(vram, cgram, r, p, x, y)),
-        Verdict::Refused(n) => CandidatesAnswer::Refused(n),
-    }
+    let cgram = tested(y, vram.len(), cgram, r.mosaic_vcounter, column, p.layer)?;
+    Ok(inner::candidates(vram, cgram, r, p, x, y))
 }
 
-// Both lines after a background's row y is laid over them.
+// Lays a background's row y over both lines. On a refusal they are what they were.
 pub fn render_bg_scanline(
-    lines: Lines,
+    lines: &mut Lines,
     vram: &[u16],
     cgram: &[u16],
     r: PPURegisters,
     p: BgParams,
     y: usize,
-) -> LinesAnswer
-    ensures { lines_mean result ≡ bg_laid_outcome vram.now cgram.now r p y lines }
+) -> Result<(), Refusal>
+    ensures { record { said = means result; left = lines.new } ≡ bg_laid_outcome vram.now cgram.now r p y lines.old }
 {
-    let layer = p.layer;
-    match tested(y, vram.len(), cgram.len(), r.mosaic_vcounter, true, layer) {
-        Verdict::Fine => {
-            let laid = inner::lay(lines, vram, cgram, r, p, y);
-            LinesAnswer {
-                verdict: Verdict::Fine,
-                lines: laid,
-            }
-        }
-        Verdict::Refused(n) => LinesAnswer {
-            verdict: Verdict::Refused(n),
-            lines,
-        },
-    }
+    let cgram = tested(y, vram.len(), cgram, r.mosaic_vcounter, true, p.layer)?;
+    inner::lay(lines, vram, cgram, r, p, y);
+    Ok(())
 }

@@ -11,7 +11,7 @@ use line_pixels::{Layer, Priority};
 use tiles::BitDepth;
 
 // What a background's row is drawn from, beside the registers that all backgrounds share.
-#[derive(Clone, Copy)]
+#[derive(Clone, Copy, Debug, PartialEq, Eq)]
 pub struct BgParams {
     // Word address of the map.
     pub tilemap_base: u16,
@@ -39,7 +39,7 @@ pub struct BgParams {
 }
 
 // A map entry's fields.
-#[derive(Clone, Copy)]
+#[derive(Clone, Copy, Debug, PartialEq, Eq)]
 pub struct MapEntry {
     pub tile: u16,
     pub palette: u8,

@@ -1,5 +1,4 @@
 pub mod Modes
-pub mod Answers
 pub mod Ties
 pub mod theorems
 pub mod steps

@@ -7,6 +7,7 @@ use bg_map::BgParams;
 use line_pixels::Priority;
 use line_pixels::inner::from_bg;
 use registers::PPURegisters;
+use registers::background::Background;
 use registers::inner::bit;
 use registers_bg::inner::{
     bg_scroll, bg_tile16, bg_tiledata_addr, bg_tilemap_addr, bg_tilemap_size,
@@ -114,56 +115,51 @@ const MODE_3_BG2: BgMode = BgMode {
 };
 
 // What mode 1 has of background bg.
-fn mode_1(lifted: bool, bg: usize) -> BgMode
-    requires { bg < 4 }
-    ensures { result ≡ get_or (mode1 (cond lifted 13 5)) bg lacks }
+fn mode_1(lifted: bool, bg: Background) -> BgMode
+    ensures { result ≡ get_or (mode1 (cond lifted 13 5)) bg.number lacks }
 {
     if lifted {
-        MODE_1_LIFTED[bg]
+        MODE_1_LIFTED[bg.number]
     } else {
-        MODE_1[bg]
+        MODE_1[bg.number]
     }
 }
 
 // What the mode has of background bg. Modes 2 and 4 to 7 draw as mode 1.
-pub fn bg_mode(bgmode: u8, bg: usize) -> BgMode
-    requires { bg < 4 }
-    ensures { result ≡ bg_mode_of bgmode bg }
+#[tactic(auto, unfolding(crate::specs::Modes::bg_mode_of, crate::specs::Modes::mode_rows))]
+pub fn bg_mode(bgmode: u8, bg: Background) -> BgMode
+    ensures { result ≡ bg_mode_of bgmode bg.number }
 {
     match bgmode % 8 {
-        0 => MODE_0[bg],
-        3 => MODE_3[bg],
+        0 => MODE_0[bg.number],
+        3 => MODE_3[bg.number],
         _ => mode_1(bit(bgmode, 3), bg),
     }
 }
 
 // The parameters by which background bg is drawn.
-pub fn bg_params(r: PPURegisters, bg: usize) -> BgParams
-    requires { bg < 4 }
-    ensures { result ≡ params_of r bg }
+#[tactic(auto, unfolding(crate::specs::Modes::params_of))]
+pub fn bg_params(r: PPURegisters, bg: Background) -> BgParams
+    ensures { result ≡ params_of r bg.number }
 {
-    let m = bg_mode(r.bgmode, bg);
-    let bpp = m.bpp;
+    let mode = bg_mode(r.bgmode, bg);
     let size = bg_tilemap_size(r, bg);
     let scroll = bg_scroll(r, bg);
-    let layer = from_bg(bg);
-    let z_low = Priority::new(m.low);
-    let z_high = Priority::new(m.high);
     BgParams {
         tilemap_base: bg_tilemap_addr(r, bg),
         tiledata_base: bg_tiledata_addr(r, bg),
         scroll_x: scroll.x,
         scroll_y: scroll.y,
-        bpp,
-        own_palettes: m.own_palettes,
+        bpp: mode.bpp,
+        own_palettes: mode.own_palettes,
         w64: size.w64,
         h64: size.h64,
         tile16: bg_tile16(r, bg),
         mosaic: bg_mosaic(r, bg),
-        z_low,
-        z_high,
-        layer,
-        to_main: m.present & bit(r.tm, bg),
-        to_sub: m.present & bit(r.ts, bg),
+        z_low: Priority::new(mode.low),
+        z_high: Priority::new(mode.high),
+        layer: from_bg(bg),
+        to_main: mode.present & bit(r.tm, bg.number),
+        to_sub: mode.present & bit(r.ts, bg.number),
     }
 }

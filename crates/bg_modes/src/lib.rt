@@ -5,19 +5,19 @@
 pub mod inner;
 
 ghost use Rattle.std.specs.Prelude.{◌≡◌};
+ghost use Rattle.base_refusal.specs.Results.{means};
 ghost use Rattle.base_refusal.specs.Answer.{value};
 ghost use Rattle.registers.specs.Bits.{of_background};
 ghost use Rattle.bg_modes.specs.Modes.{bg_mode_of, params_of};
-ghost use Rattle.bg_modes.specs.Answers.{bg_mode_means, params_mean};
 
 use base_refusal::Refusal;
 use bg_map::BgParams;
 use registers::PPURegisters;
-use registers::constants::BACKGROUNDS;
+use registers::background::Background;
 use tiles::BitDepth;
 
 // What a mode has of one background.
-#[derive(Clone, Copy)]
+#[derive(Clone, Copy, Debug, PartialEq, Eq)]
 pub struct BgMode {
     // Does the mode have it?
     pub present: bool,
@@ -29,36 +29,16 @@ pub struct BgMode {
     pub high: u8,
 }
 
-#[derive(Clone, Copy)]
-pub enum BgModeAnswer {
-    Is(BgMode),
-    Refused(Refusal),
-}
-
-#[derive(Clone, Copy)]
-pub enum ParamsAnswer {
-    Is(BgParams),
-    Refused(Refusal),
-}
-
 // What the mode that the registers name has of background bg.
-pub fn bg_mode(r: PPURegisters, bg: usize) -> BgModeAnswer
-    ensures { bg_mode_means result ≡ of_background bg (value (bg_mode_of r.bgmode bg)) }
+pub fn bg_mode(r: PPURegisters, bg: usize) -> Result<BgMode, Refusal>
+    ensures { means result ≡ of_background bg (value (bg_mode_of r.bgmode bg)) }
 {
-    if bg < BACKGROUNDS {
-        BgModeAnswer::Is(inner::bg_mode(r.bgmode, bg))
-    } else {
-        BgModeAnswer::Refused(Refusal::Argument)
-    }
+    Ok(inner::bg_mode(r.bgmode, Background::try_from(bg)?))
 }
 
 // The parameters by which background bg is drawn. One that the mode lacks is lit on neither screen.
-pub fn bg_params(r: PPURegisters, bg: usize) -> ParamsAnswer
-    ensures { params_mean result ≡ of_background bg (value (params_of r bg)) }
+pub fn bg_params(r: PPURegisters, bg: usize) -> Result<BgParams, Refusal>
+    ensures { means result ≡ of_background bg (value (params_of r bg)) }
 {
-    if bg < BACKGROUNDS {
-        ParamsAnswer::Is(inner::bg_params(r, bg))
-    } else {
-        ParamsAnswer::Refused(Refusal::Argument)
-    }
+    Ok(inner::bg_params(r, Background::try_from(bg)?))
 }

@@ -1,6 +1,6 @@
 // The row is decoded into cells, character by character, and what the columns show is taken from
 // there. What holds for the whole row is found once.
-ghost use Rattle.std.specs.Prelude.{◌≡◌, ◌+◌, ◌-◌, ◌%◌, ◌<◌, ◌≤◌, min, length};
+ghost use Rattle.std.specs.Prelude.{◌≡◌, ◌+◌, ◌-◌, ◌%◌, ◌<◌, ◌≤◌};
 ghost use Rattle.base_lists.specs.Tab.{tab};
 ghost use Rattle.line_pixels.specs.Pixels.{background_of};
 ghost use Rattle.line_laying.specs.Laying.{candidate_in};
@@ -17,17 +17,15 @@ use registers::PPURegisters;
 
 // The cells of line py of the map: its pixels from the last multiple of 8 that the scroll has
 // passed, 33 characters of them.
-fn cells(vram: &[u16], cgram: &[u16], p: BgParams, direct: bool, py: usize) -> [Candidate; 264]
-    requires { (length cgram.now ≡ 256) × ((background_of p.layer < 4) × (py < extent_of p.h64 p.tile16)) }
+fn cells(vram: &[u16], cgram: &[u16; 256], p: BgParams, direct: bool, py: usize) -> [Candidate; 264]
+    requires { (background_of p.layer < 4) × (py < extent_of p.h64 p.tile16) }
     ensures { result ≡ tab 264 (cell_at vram.now cgram.now p direct py) }
 {
-    let bpp = p.bpp;
-    let straight = is_direct(bpp, direct);
+    let straight = is_direct(p.bpp, direct);
     let first = p.scroll_x as usize / 8 * 8;
     let width = extent(p.w64, p.tile16);
     let map_row = map_row(p, py);
-    let none = Candidate::none();
-    let mut out = [none; 264];
+    let mut out = [Candidate::none(); 264];
     for j in 0..33 {
         let t = character_row(vram, p, map_row, (first + j * 8) % width, py);
         let colors = palette(cgram, p, t.palette);
@@ -39,36 +37,23 @@ fn cells(vram: &[u16], cgram: &[u16], p: BgParams, direct: bool, py: usize) -> [
 }
 
 // The cells that the columns show, the first at `fine`, without mosaic.
-fn shifted(cells: [Candidate; 264], fine: usize) -> [Candidate; 256]
+fn shifted(cells: &[Candidate; 264], fine: usize) -> [Candidate; 256]
     requires { fine < 8 }
-    ensures { result ≡ tab 256 (λ x. candidate_in cells (x + fine)) }
+    ensures { result ≡ tab 256 (λ x. candidate_in cells.now (x + fine)) }
 {
-    let none = Candidate::none();
-    let mut out = [none; 256];
-    for x in 0..256 {
-        out[x] = cells[x + fine];
-    }
-    out
-}
-
-// The smaller of two numbers.
-fn least(a: usize, b: usize) -> usize
-    ensures { result ≡ min a b }
-{
-    if a < b { a } else { b }
+    std::array::from_fn(|x| cells[x + fine])
 }
 
 // The same with mosaic: each column shows the first of its block.
-fn blocks(cells: [Candidate; 264], fine: usize, block: usize) -> [Candidate; 256]
+fn blocks(cells: &[Candidate; 264], fine: usize, block: usize) -> [Candidate; 256]
     requires { (fine < 8) × ((0 < block) × (block ≤ 16)) }
-    ensures { result ≡ tab 256 (λ x. candidate_in cells (x - x % block + fine)) }
+    ensures { result ≡ tab 256 (λ x. candidate_in cells.now (x - x % block + fine)) }
 {
-    let none = Candidate::none();
-    let mut out = [none; 256];
+    let mut out = [Candidate::none(); 256];
     let mut start = 0;
     while start < 256 {
         let c = cells[start + fine];
-        let end = least(start + block, 256);
+        let end = (start + block).min(256);
         for x in start..end {
             out[x] = c;
         }
@@ -77,23 +62,30 @@ fn blocks(cells: [Candidate; 264], fine: usize, block: usize) -> [Candidate; 256
     out
 }
 
-fn columns(cells: [Candidate; 264], fine: usize, block: usize) -> [Candidate; 256]
+fn columns(cells: &[Candidate; 264], fine: usize, block: usize) -> [Candidate; 256]
     requires { (fine < 8) × ((0 < block) × (block ≤ 16)) }
-    ensures { result ≡ tab 256 (λ x. candidate_in cells (x - x % block + fine)) }
+    ensures { result ≡ tab 256 (λ x. candidate_in cells.now (x - x % block + fine)) }
 {
     if block == 1 {
-        return shifted(cells, fine);
+        shifted(cells, fine)
+    } else {
+        blocks(cells, fine, block)
     }
-    blocks(cells, fine, block)
 }
 
 // What the background has at the columns of row y.
-pub fn row(vram: &[u16], cgram: &[u16], r: PPURegisters, p: BgParams, y: usize) -> [Candidate; 256]
-    requires { BgRowSound (length cgram.now) p.layer y }
+pub fn row(
+    vram: &[u16],
+    cgram: &[u16; 256],
+    r: PPURegisters,
+    p: BgParams,
+    y: usize,
+) -> [Candidate; 256]
+    requires { BgRowSound p.layer y }
     ensures { result ≡ tab 256 (bg_pixel vram.now cgram.now r p y) }
 {
     let py = source_line(r, p, y);
     let decoded = cells(vram, cgram, p, r.direct_color(), py);
     let block = registers_mosaic::inner::block(r, p.mosaic) as usize;
-    columns(decoded, p.scroll_x as usize % 8, block)
+    columns(&decoded, p.scroll_x as usize % 8, block)
 }

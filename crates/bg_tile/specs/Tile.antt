@@ -47,7 +47,7 @@ start_of Two false b n = n * 4
 start_of Four own b n = n * 16
 start_of Eight own b n = 0
 
-abbrev pub bg_colours : List ℕ → BgParams → ℕ → List ℕ
+abbrev pub bg_colours : {A : Type 0} → List A → BgParams → ℕ → List A
 bg_colours g p n = take (colour_count p.bpp) (drop (start_of p.bpp p.own_palettes (background_of p.layer) n) g)
 
 abbrev pub is_eight : BitDepth → Bool

@@ -48,16 +48,13 @@ pub fn character_row(vram: &[u16], p: BgParams, map_row: usize, px: usize, py: u
     let entry = bg_map::inner::entry_in(vram, map_row, p.tile16, px);
     let fx = fine(px, p.tile16, entry.flip_x);
     let fy = fine(py, p.tile16, entry.flip_y);
-    let bpp = p.bpp;
-    let words = bpp.tile_words();
-    let base = character_word(p.tiledata_base, entry.tile, fx, fy, words);
-    let z = priority(p, entry.high);
+    let words = p.bpp.tile_words();
     TileRow {
-        base,
+        base: character_word(p.tiledata_base, entry.tile, fx, fy, words),
         row: (fy % 8) as u8,
         flip_x: entry.flip_x,
         palette: entry.palette,
-        z,
+        z: priority(p, entry.high),
     }
 }
 
@@ -95,31 +92,24 @@ pub fn palette_start(p: BgParams, n: u8) -> usize
     requires { (background_of p.layer < 4) × (n < 8) }
     ensures { (result ≡ start_of p.bpp p.own_palettes (background_of p.layer) n) × (result + colour_count p.bpp ≤ 256) }
 {
-    let bpp = p.bpp;
-    let layer = p.layer;
-    start_of(bpp, p.own_palettes, bg_index(layer), n)
+    start_of(p.bpp, p.own_palettes, bg_index(p.layer), n)
 }
 
-// A tile's colours, a part of colour memory.
-pub fn palette<'a>(cgram: &'a [u16], p: BgParams, n: u8) -> &'a [u16]
-    requires { (length cgram.now ≡ 256) × ((background_of p.layer < 4) × (n < 8)) }
+// A tile's colours, a part of colour memory, whatever its words are.
+pub fn palette<'a, T>(cgram: &'a [T; 256], p: BgParams, n: u8) -> &'a [T]
+    requires { (background_of p.layer < 4) × (n < 8) }
     ensures { result.now ≡ bg_colours cgram.now p n }
 {
-    let bpp = p.bpp;
     let start = palette_start(p, n);
-    let end = start + colors(bpp);
-    &cgram[start..end]
+    let words = &cgram[..];
+    &words[start..start + colors(p.bpp)]
 }
 
 // Is direct colour shown at this depth?
 pub fn is_direct(bpp: BitDepth, direct: bool) -> bool
     ensures { result ≡ is_eight bpp && direct }
 {
-    match bpp {
-        BitDepth::Two => false,
-        BitDepth::Four => false,
-        BitDepth::Eight => direct,
-    }
+    (bpp == BitDepth::Eight) & direct
 }
 
 // The colour of an index: direct, or among the tile's colours.
@@ -128,10 +118,10 @@ fn color(colors: &[u16], direct: bool, palette: u8, index: u8) -> u16
     ensures { result ≡ colour_in colors.now direct palette index }
 {
     if direct {
-        return colour::direct_color(index, palette);
+        colour::direct_color(index, palette)
+    } else {
+        colors[index as usize]
     }
-    let at = index as usize;
-    colors[at]
 }
 
 // Pixel k of a character's row whose tile has these colours.
@@ -146,15 +136,11 @@ pub fn cell(
     requires { (length colors.now ≡ colour_count p.bpp) × (TileRowSound t × (k < 8)) }
     ensures { result ≡ cell_in vram.now colors.now p direct t k }
 {
-    let bpp = p.bpp;
-    let layer = p.layer;
-    let z = t.z;
-    let index = tiles_row::inner::index(vram, bpp, t, k);
-    let color = color(colors, direct, t.palette, index);
+    let index = tiles_row::inner::index(vram, p.bpp, t, k);
     let pixel = LinePixel {
-        color,
-        z,
-        layer,
+        color: color(colors, direct, t.palette, index),
+        z: t.z,
+        layer: p.layer,
         obj_math: false,
     };
     Candidate {
@@ -166,18 +152,17 @@ pub fn cell(
 // The pixel (px, py) of the map.
 pub fn pixel(
     vram: &[u16],
-    cgram: &[u16],
+    cgram: &[u16; 256],
     p: BgParams,
     direct: bool,
     px: usize,
     py: usize,
 ) -> Candidate
-    requires { ((length cgram.now ≡ 256) × (background_of p.layer < 4)) × ((px < extent_of p.w64 p.tile16) × (py < extent_of p.h64 p.tile16)) }
+    requires { (background_of p.layer < 4) × ((px < extent_of p.w64 p.tile16) × (py < extent_of p.h64 p.tile16)) }
     ensures { result ≡ pixel_at vram.now cgram.now p direct px py }
 {
-    let bpp = p.bpp;
     let map_row = bg_map::inner::map_row(p, py);
     let t = character_row(vram, p, map_row, px / 8 * 8, py);
     let colors = palette(cgram, p, t.palette);
-    cell(vram, colors, p, is_direct(bpp, direct), t, px % 8)
+    cell(vram, colors, p, is_direct(p.bpp, direct), t, px % 8)
 }

@@ -2,7 +2,6 @@
 // scene has, and so sees that a scene is longer.
 #![tactic(auto)]
 
-use base_refusal::Verdict;
 use base_refusal_line::refuse;
 
 fn main() {
@@ -11,14 +10,12 @@ fn main() {
     let mut oam = [0u8; 544];
     let mut file = [0u8; 66657];
     let got = io::read_full(0, &mut file);
-    let read = scene_file::read_scene(&mut vram, &mut cgram, &mut oam, &file[..got]);
-    let verdict = read.verdict;
-    match verdict {
-        Verdict::Fine => {
+    match scene_file::read_scene(&mut vram, &mut cgram, &mut oam, &file[..got]) {
+        Ok(_) => {
             io::write_all(1, b"accepted\n");
         }
-        Verdict::Refused(n) => {
-            refuse(n);
+        Err(n) => {
+            let _ = refuse(n);
         }
     }
 }

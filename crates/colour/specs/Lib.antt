@@ -1,4 +1,3 @@
 pub mod Colour
-pub mod Answers
 pub mod Bit15
 pub mod theorems

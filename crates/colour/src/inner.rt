@@ -4,29 +4,15 @@ ghost use Rattle.colour.specs.Colour.{mixed, halved, channel_of, light, at_brigh
 
 use crate::Rgb;
 
-// The smaller of two numbers.
-fn least(a: u16, b: u16) -> u16
-    ensures { result ≡ min a b }
-{
-    if a < b { a } else { b }
-}
-
-// a less b, or 0 where b is larger.
-fn saturating_sub(a: u16, b: u16) -> u16
-    ensures { result ≡ a - b }
-{
-    if a < b { 0 } else { a - b }
-}
-
 // Add stops at 31, subtract at 0.
 pub fn mix(main: u16, sub: u16, subtract: bool) -> u16
     requires { (main < 32) × (sub < 32) }
     ensures { (result ≡ mixed main sub subtract) × (result < 32) }
 {
     if subtract {
-        saturating_sub(main, sub)
+        main.saturating_sub(sub)
     } else {
-        least(main + sub, 31)
+        (main + sub).min(31)
     }
 }
 

@@ -4,24 +4,18 @@
 pub mod inner;
 
 ghost use Rattle.std.specs.Prelude.{◌≡◌};
+ghost use Rattle.base_refusal.specs.Results.{means};
 ghost use Rattle.base_refusal.specs.Answer.{value};
 ghost use Rattle.colour.specs.Colour.{direct_colour, math_of, at_brightness, of_brightness};
-ghost use Rattle.colour.specs.Answers.{rgb_means};
 
 use base_refusal::Refusal;
 
 // A colour of the picture, eight bits for each channel.
-#[derive(Clone, Copy)]
+#[derive(Clone, Copy, Debug, PartialEq, Eq)]
 pub struct Rgb {
     pub red: u8,
     pub green: u8,
     pub blue: u8,
-}
-
-#[derive(Clone, Copy)]
-pub enum RgbAnswer {
-    Is(Rgb),
-    Refused(Refusal),
 }
 
 // The colour word of an 8bpp colour index and its tile's palette number in direct colour.
@@ -47,12 +41,12 @@ pub fn color_math(main: u16, sub: u16, subtract: bool, half: bool) -> u16
 }
 
 // The colour as the picture has it, at a brightness of 0 to 15.
-pub fn apply_brightness(color: u16, brightness: u16) -> RgbAnswer
-    ensures { rgb_means result ≡ of_brightness brightness (value (at_brightness color brightness)) }
+pub fn apply_brightness(color: u16, brightness: u16) -> Result<Rgb, Refusal>
+    ensures { means result ≡ of_brightness brightness (value (at_brightness color brightness)) }
 {
     if brightness < 16 {
-        RgbAnswer::Is(inner::apply_brightness(color, brightness))
+        Ok(inner::apply_brightness(color, brightness))
     } else {
-        RgbAnswer::Refused(Refusal::Argument)
+        Err(Refusal::Argument)
     }
 }

@@ -2,5 +2,5 @@
 #![tactic(auto)]
 
 fn main() {
-    frame_library::frame();
+    let _ = frame_library::frame();
 }

@@ -16,14 +16,16 @@ use Rattle.line_laying.specs.declared.Shown.{Shown}
 use Rattle.line_laying.specs.Laying.{shown_at, on_main, on_sub, on_screen, lay_line, lay_lines, candidate_in}
 use Rattle.line_laying.specs.steps.Laying.{marked}
 
--- a mask that is not made, and one that is
-pub mask_off : (on m : Bool) → not on ≡ true → false ≡ on && m
-mask_off true m e = absurd (false≢true e)
+-- a mask that is not made
+pub mask_off : (on m : Bool) → on ≡ false → false ≡ on && m
+mask_off true m e = absurd (false≢true (sym e))
 mask_off false m e = refl
 
-pub mask_on : (on m : Bool) → not on ≡ false → m ≡ on && m
-mask_on true m e = refl
-mask_on false m e = absurd (false≢true (sym e))
+-- lit on neither screen
+pub neither : (a b : Bool) → a || b ≡ false → (a ≡ false) × (b ≡ false)
+neither true b e = absurd (false≢true (sym e))
+neither false true e = absurd (false≢true (sym e))
+neither false false e = (refl, refl)
 
 -- a mask that is made for either screen bars the first, and the second
 pub bars_main : (a b m : Bool) → a && ((a || b) && m) ≡ a && m

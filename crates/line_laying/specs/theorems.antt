@@ -1,3 +1,2 @@
 pub mod Unlit
 pub mod Order
-pub mod Answers

@@ -6,13 +6,12 @@ pub mod inner;
 ghost use Rattle.std.specs.Prelude.{◌≡◌};
 ghost use Rattle.line_laying.specs.Laying.{candidate_in, lay_lines};
 
-use base_refusal::{Refusal, Verdict};
 use line_pixels::{Candidate, Lines};
 use line_window::Window;
 
 // Where a layer is shown: the screens that light it (tm, ts), those that its window bars (tmw, tsw),
 // and the window.
-#[derive(Clone, Copy)]
+#[derive(Clone, Copy, Debug, PartialEq, Eq)]
 pub struct Shown {
     pub to_main: bool,
     pub to_sub: bool,
@@ -22,54 +21,22 @@ pub struct Shown {
 }
 
 // A layer's candidates at one pixel, on the main screen and on the sub screen.
-#[derive(Clone, Copy)]
+#[derive(Clone, Copy, Debug, PartialEq, Eq)]
 pub struct Candidates {
     pub main: Candidate,
     pub sub: Candidate,
 }
 
-// The answer of a call for a layer's candidates at a column.
-#[derive(Clone, Copy)]
-pub enum CandidatesAnswer {
-    Is(Candidates),
-    Refused(Refusal),
-}
-
-// The verdict on a call, and the lines that it leaves: on a refusal those that it was given.
-#[derive(Clone, Copy)]
-pub struct LinesAnswer {
-    pub verdict: Verdict,
-    pub lines: Lines,
-}
-
-// Both lines after a layer is laid that has `row` at its 256 columns.
-pub fn lay(lines: Lines, row: [Candidate; 256], s: Shown) -> Lines
-    ensures { result ≡ lay_lines s (candidate_in row) lines }
+// Lays a layer over both lines that has `row` at its 256 columns.
+pub fn lay(lines: &mut Lines, row: &[Candidate; 256], s: Shown)
+    ensures { lines.new ≡ lay_lines s (candidate_in row.now) lines.old }
 {
-    let over = lines.main;
-    let under = lines.sub;
-    let mask = inner::mask(s.window, s.win_main | s.win_sub);
-    let main = inner::lay_screen(over, row, s.to_main, s.win_main, mask);
-    let sub = inner::lay_screen(under, row, s.to_sub, s.win_sub, mask);
-    Lines { main, sub }
+    inner::lay(&mut lines.main, &mut lines.sub, row, s);
 }
 
 // The same of a row that has few opaque columns: the others are skipped.
-pub fn lay_few(lines: Lines, row: [Candidate; 256], s: Shown) -> Lines
-    ensures { result ≡ lay_lines s (candidate_in row) lines }
+pub fn lay_few(lines: &mut Lines, row: &[Candidate; 256], s: Shown)
+    ensures { lines.new ≡ lay_lines s (candidate_in row.now) lines.old }
 {
-    let mut main = lines.main;
-    let mut sub = lines.sub;
-    for x in 0..256 {
-        let c = row[x];
-        if !c.opaque {
-            continue;
-        }
-        let seen = inner::on_screens(c, s, x);
-        let over = seen.main;
-        let under = seen.sub;
-        main[x] = line_pixels::deposit(main[x], over);
-        sub[x] = line_pixels::deposit(sub[x], under);
-    }
-    Lines { main, sub }
+    inner::lay_few(&mut lines.main, &mut lines.sub, row, s);
 }

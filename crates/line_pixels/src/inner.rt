@@ -4,13 +4,13 @@ ghost use Rattle.std.specs.Prelude.{◌≡◌, cond, ◌+◌, ◌<◌, ◌≤◌
 ghost use Rattle.line_pixels.specs.Pixels.{layer_of, background_of};
 
 use crate::{Layer, LinePixel, Priority};
+use registers::background::Background;
 
 // The layer of background bg.
-pub fn from_bg(bg: usize) -> Layer
-    requires { bg < 4 }
-    ensures { result ≡ layer_of bg }
+pub fn from_bg(bg: Background) -> Layer
+    ensures { result ≡ layer_of bg.number }
 {
-    match bg {
+    match bg.number {
         0 => Layer::Bg1,
         1 => Layer::Bg2,
         2 => Layer::Bg3,
@@ -39,47 +39,21 @@ pub fn rank(z: Priority) -> u32
     z.0 as u32 + 1
 }
 
-// Of two colours the first, where `on` says so, and otherwise the second.
-pub fn pick_color(on: bool, a: u16, b: u16) -> u16
+// Of two values the first, where `on` says so, and otherwise the second.
+pub fn select<T: Copy>(on: bool, a: T, b: T) -> T
     ensures { result ≡ cond on a b }
 {
     if on { a } else { b }
 }
 
-fn pick_priority(on: bool, a: Priority, b: Priority) -> Priority
-    ensures { result ≡ cond on a b }
-{
-    if on { a } else { b }
-}
-
-fn pick_layer(on: bool, a: Layer, b: Layer) -> Layer
-    ensures { result ≡ cond on a b }
-{
-    if on { a } else { b }
-}
-
-fn pick_mark(on: bool, a: bool, b: bool) -> bool
-    ensures { result ≡ cond on a b }
-{
-    if on { a } else { b }
-}
-
-// Of two pixels the first, where `on` says so, and otherwise the second.
+// Of two pixels, field by field.
 pub fn pick(on: bool, a: LinePixel, b: LinePixel) -> LinePixel
     ensures { result ≡ cond on a b }
 {
-    let near = a.z;
-    let far = b.z;
-    let first = a.layer;
-    let second = b.layer;
-    let color = pick_color(on, a.color, b.color);
-    let z = pick_priority(on, near, far);
-    let layer = pick_layer(on, first, second);
-    let obj_math = pick_mark(on, a.obj_math, b.obj_math);
     LinePixel {
-        color,
-        z,
-        layer,
-        obj_math,
+        color: select(on, a.color, b.color),
+        z: select(on, a.z, b.z),
+        layer: select(on, a.layer, b.layer),
+        obj_math: select(on, a.obj_math, b.obj_math),
     }
 }

@@ -5,16 +5,16 @@
 pub mod inner;
 
 ghost use Rattle.std.specs.Prelude.{◌≡◌, leb};
+ghost use Rattle.base_refusal.specs.Results.{means};
 ghost use Rattle.base_refusal.specs.Answer.{value};
 ghost use Rattle.registers.specs.Bits.{of_background};
-ghost use Rattle.line_pixels.specs.Answers.{layer_means};
 ghost use Rattle.line_pixels.specs.Pixels.{priority, sprite_priority, layer_of, backdrop_of, none, backdrop_lines, deposited};
 
 use base_refusal::Refusal;
-use registers::constants::BACKGROUNDS;
+use registers::background::Background;
 
 // The layer that a pixel came from.
-#[derive(Clone, Copy)]
+#[derive(Clone, Copy, Debug, PartialEq, Eq)]
 pub enum Layer {
     Backdrop,
     Bg1,
@@ -24,28 +24,18 @@ pub enum Layer {
     Obj,
 }
 
-#[derive(Clone, Copy)]
-pub enum LayerAnswer {
-    Is(Layer),
-    Refused(Refusal),
-}
-
 impl Layer {
     // The layer of background bg: BG1 is 0.
-    pub fn from_bg(bg: usize) -> LayerAnswer
-        ensures { layer_means result ≡ of_background bg (value (layer_of bg)) }
+    pub fn from_bg(bg: usize) -> Result<Layer, Refusal>
+        ensures { means result ≡ of_background bg (value (layer_of bg)) }
     {
-        if bg < BACKGROUNDS {
-            LayerAnswer::Is(inner::from_bg(bg))
-        } else {
-            LayerAnswer::Refused(Refusal::Argument)
-        }
+        Ok(inner::from_bg(Background::try_from(bg)?))
     }
 }
 
 // How near a pixel is: the greater is in front. Its users see no number, so that it cannot pass
 // for a colour.
-#[derive(Clone, Copy)]
+#[derive(Clone, Copy, Debug, PartialEq, Eq)]
 pub struct Priority(u8);
 
 impl Priority {
@@ -76,7 +66,7 @@ impl Priority {
 
 // A pixel of a screen, main or sub, before colour math. The math mark is a sprite's with palette 4
 // or more.
-#[derive(Clone, Copy)]
+#[derive(Clone, Copy, Debug, PartialEq, Eq)]
 pub struct LinePixel {
     pub color: u16,
     pub z: Priority,
@@ -99,7 +89,7 @@ impl LinePixel {
 }
 
 // What a layer has at a pixel: the pixel, and whether it is opaque.
-#[derive(Clone, Copy)]
+#[derive(Clone, Copy, Debug, PartialEq, Eq)]
 pub struct Candidate {
     pub opaque: bool,
     pub pixel: LinePixel,
@@ -110,16 +100,15 @@ impl Candidate {
     pub fn none() -> Candidate
         ensures { result ≡ none }
     {
-        let pixel = LinePixel::backdrop(0);
         Candidate {
             opaque: false,
-            pixel,
+            pixel: LinePixel::backdrop(0),
         }
     }
 }
 
 // The lines of both screens.
-#[derive(Clone, Copy)]
+#[derive(Clone, Copy, Debug, PartialEq, Eq)]
 pub struct Lines {
     pub main: [LinePixel; 256],
     pub sub: [LinePixel; 256],
@@ -127,14 +116,14 @@ pub struct Lines {
 
 impl Lines {
     // The lines of a row before any layer is laid: main in colour word 0, sub in coldata.
+    #[tactic(auto, unfolding(crate::specs::Pixels::backdrop_line))]
     pub fn backdrops(main: u16, sub: u16) -> Lines
         ensures { result ≡ backdrop_lines main sub }
     {
-        let over = LinePixel::backdrop(main);
-        let under = LinePixel::backdrop(sub);
-        let main = [over; 256];
-        let sub = [under; 256];
-        Lines { main, sub }
+        Lines {
+            main: [LinePixel::backdrop(main); 256],
+            sub: [LinePixel::backdrop(sub); 256],
+        }
     }
 }
 
@@ -143,8 +132,5 @@ impl Lines {
 pub fn deposit(held: LinePixel, c: Candidate) -> LinePixel
     ensures { result ≡ deposited held c }
 {
-    let pixel = c.pixel;
-    let z = pixel.z;
-    let over = held.z;
-    inner::pick(c.opaque & z.covers(over), pixel, held)
+    inner::pick(c.opaque & c.pixel.z.covers(held.z), c.pixel, held)
 }

@@ -1,13 +1,10 @@
--- What `xor` is where its first side is known.
+-- What `^` gives of two truths is `xor` of them.
 use mathlib.Core.Path.{◌≡◌, refl}
-use mathlib.Core.Bool.{Bool, true, false, not, xor}
+use mathlib.Core.Bool.{Bool, true, false, not, xor, beq}
 
-pub xor_true : (b : Bool) → xor true b ≡ not b
+pub exclusive : (a b : Bool) → not (beq a b) ≡ xor a b
 unfolding xor
-xor_true true = refl
-xor_true false = refl
-
-pub xor_false : (b : Bool) → xor false b ≡ b
-unfolding xor
-xor_false true = refl
-xor_false false = refl
+exclusive true true = refl
+exclusive true false = refl
+exclusive false true = refl
+exclusive false false = refl

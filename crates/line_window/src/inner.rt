@@ -12,12 +12,6 @@ pub fn inside(left: u8, right: u8, x: usize) -> bool
     (left as usize <= x) & (x <= right as usize)
 }
 
-fn exclusive(a: bool, b: bool) -> bool
-    ensures { result ≡ xor a b }
-{
-    if a { !b } else { b }
-}
-
 // OR, AND, XOR, XNOR by logic 0 to 3.
 fn by_logic(logic: u8, a: bool, b: bool) -> bool
     ensures { result ≡ logic_of logic a b }
@@ -25,8 +19,8 @@ fn by_logic(logic: u8, a: bool, b: bool) -> bool
     match logic {
         0 => a | b,
         1 => a & b,
-        2 => exclusive(a, b),
-        _ => !exclusive(a, b),
+        2 => a ^ b,
+        _ => !(a ^ b),
     }
 }
 
@@ -47,7 +41,7 @@ fn combine(enable1: bool, enable2: bool, logic: u8, w1: bool, w2: bool) -> bool
 pub fn masked(w: Window, x: usize) -> bool
     ensures { result ≡ masked w x }
 {
-    let w1 = exclusive(inside(w.left1, w.right1, x), w.invert1);
-    let w2 = exclusive(inside(w.left2, w.right2, x), w.invert2);
+    let w1 = inside(w.left1, w.right1, x) ^ w.invert1;
+    let w2 = inside(w.left2, w.right2, x) ^ w.invert2;
     combine(w.enable1, w.enable2, w.logic, w1, w2)
 }

@@ -5,7 +5,7 @@ pub mod inner;
 
 // The window of a layer, or the colour window: two ranges of columns, the bits that invert and
 // enable each, and the logic, 0 to 3, that joins them.
-#[derive(Clone, Copy)]
+#[derive(Clone, Copy, Debug, PartialEq, Eq)]
 pub struct Window {
     pub left1: u8,
     pub right1: u8,

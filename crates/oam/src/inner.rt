@@ -4,7 +4,7 @@ ghost use Rattle.base_signed.specs.Remainder.{remainder};
 ghost use Rattle.oam.specs.Sprites.{sprite_of, signed9, chr_base_of, sized, size_of, sizes_of};
 ghost use Rattle.oam.specs.steps.Sprites.{Sized};
 
-use crate::{Sprite, SpriteSize};
+use crate::{OAM_SIZE, Sprite, SpriteSize};
 use base_signed::inner::rem_euclid;
 
 // Nine bits as a column: the low byte, and bit 8.
@@ -33,9 +33,8 @@ fn chr_base(objsel: u8, name_table: u8) -> u16
     }
 }
 
-pub fn get_sprite(oam: &[u8], index: u8, objsel: u8) -> Sprite
-    requires whole { length oam.now ≡ 544 }
-    requires in_range { index < 128 }
+pub fn get_sprite(oam: &[u8; OAM_SIZE], index: u8, objsel: u8) -> Sprite
+    requires { index < 128 }
     ensures { result ≡ sprite_of oam.now index objsel }
 {
     let i = index as usize;
@@ -62,7 +61,7 @@ pub fn get_sprite(oam: &[u8], index: u8, objsel: u8) -> Sprite
 }
 
 // The two sizes of a setting of objsel.
-#[derive(Clone, Copy)]
+#[derive(Clone, Copy, Debug, PartialEq, Eq)]
 pub struct Sizes {
     pub small: SpriteSize,
     pub large: SpriteSize,

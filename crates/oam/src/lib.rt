@@ -5,12 +5,11 @@
 pub mod inner;
 
 ghost use Rattle.std.specs.Prelude.{◌≡◌, ◌<◌};
-ghost use Rattle.base_refusal.specs.Verdicts.{verdict_means, Passed};
+ghost use Rattle.base_refusal.specs.Results.{means, Passed};
 ghost use Rattle.base_signed.specs.Remainder.{remainder};
-ghost use Rattle.oam.specs.Answers.{sprite_means};
 ghost use Rattle.oam.specs.Sprites.{blank_sprite, sprite_tests, sprite_answer, size_of};
 
-use base_refusal::{Refusal, Verdict};
+use base_refusal::Refusal;
 
 // The bytes of sprite memory: 4 for each sprite, then 2 bits for each.
 pub const OAM_SIZE: usize = 544;
@@ -18,7 +17,7 @@ pub const OAM_SIZE: usize = 544;
 pub const SPRITES: u8 = 128;
 
 // A sprite as sprite memory describes it.
-#[derive(Clone, Copy)]
+#[derive(Clone, Copy, Debug, PartialEq, Eq)]
 pub struct Sprite {
     // The column of its left edge, -256 to 255.
     pub x: i16,
@@ -60,39 +59,23 @@ impl Sprite {
     }
 }
 
-#[derive(Clone, Copy)]
+#[derive(Clone, Copy, Debug, PartialEq, Eq)]
 pub struct SpriteSize {
     pub width: u8,
     pub height: u8,
 }
 
-#[derive(Clone, Copy)]
-pub enum SpriteAnswer {
-    Is(Sprite),
-    Refused(Refusal),
-}
-
-// The tests of get_sprite: sprite memory's length, then the sprite's number.
-fn tested(oam_len: usize, index: u8) -> Verdict
-    ensures { (verdict_means result ≡ sprite_tests oam_len index) × (Passed result → (oam_len ≡ 544) × (index < 128)) }
-{
-    if oam_len != OAM_SIZE {
-        return Verdict::Refused(Refusal::Oam);
-    }
-    if index < SPRITES {
-        Verdict::Fine
-    } else {
-        Verdict::Refused(Refusal::Argument)
-    }
-}
-
 // Sprite `index`, with its tiles where objsel says.
-pub fn get_sprite(oam: &[u8], index: u8, objsel: u8) -> SpriteAnswer
-    ensures { sprite_means result ≡ sprite_answer oam.now index objsel }
+pub fn get_sprite(oam: &[u8], index: u8, objsel: u8) -> Result<Sprite, Refusal>
+    ensures { means result ≡ sprite_answer oam.now index objsel }
 {
-    match tested(oam.len(), index) {
-        Verdict::Fine => SpriteAnswer::Is(inner::get_sprite(oam, index, objsel)),
-        Verdict::Refused(n) => SpriteAnswer::Refused(n),
+    let Ok(oam) = <&[u8; OAM_SIZE]>::try_from(oam) else {
+        return Err(Refusal::Oam);
+    };
+    if index < SPRITES {
+        Ok(inner::get_sprite(oam, index, objsel))
+    } else {
+        Err(Refusal::Argument)
     }
 }
 

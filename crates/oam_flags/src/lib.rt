@@ -4,7 +4,7 @@
 ghost use Rattle.std.specs.Prelude.{◌≡◌};
 ghost use Rattle.oam_flags.specs.Flags.{kept_flags, clear_flags};
 
-#[derive(Clone, Copy)]
+#[derive(Clone, Copy, Debug, PartialEq, Eq)]
 pub struct OamFlags {
     pub time_over: bool,
     pub range_over: bool,

@@ -1,11 +1,9 @@
 -- Calls one after another, and what a machine of one memory, one address and one latch does and says of them.
-use Rattle.std.specs.Prelude.{ℕ, ◌≡◌, List, [], ◌∷◌}
-use Rattle.base_refusal.specs.Answer.{Answer}
-use Rattle.base_refusal.specs.Verdicts.{verdict_means}
+use Rattle.std.specs.Prelude.{ℕ, ◌≡◌, List, [], ◌∷◌, Result}
+use Rattle.base_refusal.specs.Answer.{Answer, Outcome}
+use Rattle.base_refusal.specs.Results.{means}
+use Rattle.base_refusal.specs.declared.Refusal.{Refusal}
 use Rattle.oam_port.specs.declared.OamPort.{OamPort}
-use Rattle.oam_port.specs.declared.PortAnswer.{PortAnswer}
-use Rattle.oam_port.specs.declared.ReadAnswer.{ReadAnswer}
-use Rattle.oam_port.specs.Answers.{byte_means, port_means, read_means}
 use Rattle.oam_port.specs.Port.{Machine, machine, addressed, wrote, read_out}
 
 -- what is asked of the port
@@ -33,15 +31,15 @@ reply data_read m = byte (read_out m).said
 -- a call that was made, between the memory and port that it was given and those that it left: all that is known of it is
 -- its contract
 pub data Called : Access → Machine → Reply → Machine → Type 0 where
-  wrote_address : (p : OamPort) (v : ℕ) (oam : List ℕ) (r : PortAnswer) →
-      port_means r oam ≡ addressed v (machine oam p) →
-      Called (address_write v) (machine oam p) (written (verdict_means r.verdict)) (machine oam r.port)
-  wrote_data : (p : OamPort) (v : ℕ) (entry exit : List ℕ) (r : PortAnswer) →
-      port_means r exit ≡ wrote v (machine entry p) →
-      Called (data_write v) (machine entry p) (written (verdict_means r.verdict)) (machine exit r.port)
-  read_data : (p : OamPort) (oam : List ℕ) (r : ReadAnswer) →
-      read_means r oam ≡ read_out (machine oam p) →
-      Called data_read (machine oam p) (byte (byte_means r.byte)) (machine oam r.port)
+  wrote_address : (p q : OamPort) (v : ℕ) (oam : List ℕ) (r : Result Unit Refusal) →
+      ◌≡◌ {A = Outcome Unit Machine} (record { said = means r; left = machine oam q }) (addressed v (machine oam p)) →
+      Called (address_write v) (machine oam p) (written (means r)) (machine oam q)
+  wrote_data : (p q : OamPort) (v : ℕ) (before after : List ℕ) (r : Result Unit Refusal) →
+      ◌≡◌ {A = Outcome Unit Machine} (record { said = means r; left = machine after q }) (wrote v (machine before p)) →
+      Called (data_write v) (machine before p) (written (means r)) (machine after q)
+  read_data : (p q : OamPort) (oam : List ℕ) (r : Result ℕ Refusal) →
+      ◌≡◌ {A = Outcome ℕ Machine} (record { said = means r; left = machine oam q }) (read_out (machine oam p)) →
+      Called data_read (machine oam p) (byte (means r)) (machine oam q)
 
 -- calls made one after another, each on what the one before left
 pub data PortCalls : List Access → Machine → List Reply → Machine → Type 0 where

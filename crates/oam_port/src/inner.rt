@@ -21,42 +21,34 @@ pub fn byte_at(oam: &[u8], address: u16) -> u8
     oam[byte_number(address)]
 }
 
-// The port after an access that leaves its latch.
-pub fn moved(port: OamPort) -> OamPort
-    requires { port.address < 1024 }
-    ensures { result ≡ move port }
+// Moves the port on, after an access that leaves its latch.
+pub fn move_on(port: &mut OamPort)
+    requires { port.old.address < 1024 }
+    ensures { port.new ≡ move port.old }
 {
-    OamPort {
-        address: (port.address + 1) % 1024,
-        write_latch: port.write_latch,
-    }
+    port.address = (port.address + 1) % 1024;
 }
 
-pub fn write_addr(port: OamPort, oamadd: u16) -> OamPort
-    ensures { result ≡ set_address oamadd port }
+pub fn write_addr(port: &mut OamPort, oamadd: u16)
+    ensures { port.new ≡ set_address oamadd port.old }
 {
-    let mut addressed = port;
-    addressed.address = oamadd % 512 * 2;
-    addressed
+    port.address = oamadd % 512 * 2;
 }
 
-pub fn write_data(port: OamPort, oam: &mut [u8], value: u8) -> OamPort
+#[tactic(auto, unfolding(crate::specs::Port::store))]
+pub fn write_data(port: &mut OamPort, oam: &mut [u8], value: u8)
     requires whole { length oam.old ≡ 544 }
-    requires in_range { port.address < 1024 }
-    ensures { machine oam.new result ≡ store value (machine oam.old port) }
+    requires in_range { port.old.address < 1024 }
+    ensures { machine oam.new port.new ≡ store value (machine oam.old port.old) }
 {
     let addr = port.address as usize;
-    if addr < 512 {
-        if addr % 2 == 0 {
-            let mut latched = moved(port);
-            latched.write_latch = value;
-            return latched;
-        }
+    if addr >= 512 {
+        oam[byte_number(port.address)] = value;
+    } else if addr % 2 == 0 {
+        port.write_latch = value;
+    } else {
         oam[addr - 1] = port.write_latch;
         oam[addr] = value;
-        return moved(port);
     }
-    let byte = byte_number(port.address);
-    oam[byte] = value;
-    moved(port)
+    move_on(port);
 }

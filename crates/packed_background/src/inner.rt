@@ -1,5 +1,5 @@
 // What a whole row asks of a background.
-ghost use Rattle.std.specs.Prelude.{◌≡◌, cond, ◌&&◌, ◌||◌, ◌+◌, ◌-◌, ◌%◌, ◌<◌, ◌≤◌, length, get_or, take};
+ghost use Rattle.std.specs.Prelude.{◌≡◌, cond, ◌&&◌, ◌||◌, ◌+◌, ◌-◌, ◌%◌, ◌<◌, ◌≤◌, get_or, take};
 ghost use Rattle.base_lists.specs.Tab.{tab};
 ghost use Rattle.line_pixels.specs.Pixels.{background_of};
 ghost use Rattle.packed_pixels.specs.steps.Packed.{packed_if};
@@ -15,65 +15,45 @@ ghost use Rattle.bg_modes.specs.Modes.{params_of};
 use bg_map::BgParams;
 use bg_map::inner::{extent, map_row, source_line};
 use bg_modes::inner::bg_params;
-use bg_tile::inner::{character_row, palette_start};
+use bg_tile::inner::{character_row, palette};
 use line_pixels::inner::bg_index;
 use packed_pixels::inner::head;
 use registers::PPURegisters;
+use registers::background::Background;
 use tiles::BitDepth;
-use tiles::inner::plane_word;
-use tiles_eight::inner::{of_direct, of_eight, of_four, of_two};
+use tiles_eight::inner::{shaded, shaded_direct};
 use tiles_row::TileRow;
 
-// A tile's colours, a part of colour memory in wide words.
-fn palette<'a>(g: &'a [u32], p: BgParams, n: u8) -> &'a [u32]
-    requires { (length g.now ≡ 256) × ((background_of p.layer < 4) × (n < 8)) }
-    ensures { result.now ≡ bg_colours g.now p n }
-{
-    let bpp = p.bpp;
-    let start = palette_start(p, n);
-    let end = start + bg_tile::inner::colors(bpp);
-    &g[start..end]
-}
-
 // The eight pixels of a character's row.
-pub fn eight(vram: &[u16], g: &[u32], p: BgParams, direct: bool, t: TileRow) -> [u32; 8]
-    requires { ((length g.now ≡ 256) × (background_of p.layer < 4)) × TileRowSound t }
+pub fn eight(vram: &[u16], g: &[u32; 256], p: BgParams, direct: bool, t: TileRow) -> [u32; 8]
+    requires { (background_of p.layer < 4) × TileRowSound t }
     ensures { result ≡ tab 8 (λ k. packed_if (cell_in vram.now (bg_colours g.now p t.palette) p (is_eight p.bpp && direct) t k)) }
 {
-    let bpp = p.bpp;
-    let layer = p.layer;
-    let z = t.z;
-    let head = head(bg_index(layer) as u32, z);
+    let head = head(bg_index(p.layer) as u32, t.z);
     let colors = palette(g, p, t.palette);
-    let row = t.row as usize;
-    let w0 = plane_word(vram, t.base, row, 0);
-    match bpp {
-        BitDepth::Two => of_two(w0, t.flip_x, head, colors),
-        BitDepth::Four => {
-            let w1 = plane_word(vram, t.base, row, 1);
-            of_four(w0, w1, t.flip_x, head, colors)
-        }
+    match p.bpp {
+        BitDepth::Two => shaded::<1>(vram, t, head, colors),
+        BitDepth::Four => shaded::<2>(vram, t, head, colors),
         BitDepth::Eight => {
-            let w1 = plane_word(vram, t.base, row, 1);
-            let w2 = plane_word(vram, t.base, row, 2);
-            let w3 = plane_word(vram, t.base, row, 3);
             if direct {
-                return of_direct(w0, w1, w2, w3, t.flip_x, head, t.palette);
+                shaded_direct(vram, t, head)
+            } else {
+                shaded::<4>(vram, t, head, colors)
             }
-            of_eight(w0, w1, w2, w3, t.flip_x, head, colors)
         }
     }
 }
 
-// Writes the cells of line py of the map: its pixels from the last multiple of 8 that the scroll has
-// passed, 33 characters of them.
-fn cells(out: &mut [u32], vram: &[u16], g: &[u32], p: BgParams, direct: bool, py: usize)
-    requires { (length out.old ≡ 264) × ((length g.now ≡ 256) × ((background_of p.layer < 4) × (py < extent_of p.h64 p.tile16))) }
-    ensures { out.new ≡ tab 264 (λ i. packed_if (cell_at vram.now g.now p direct py i)) }
+// The cells of line py of the map: its pixels from the last multiple of 8 that the scroll has passed, 33
+// characters of them.
+fn cells(vram: &[u16], g: &[u32; 256], p: BgParams, direct: bool, py: usize) -> [u32; 264]
+    requires { (background_of p.layer < 4) × (py < extent_of p.h64 p.tile16) }
+    ensures { result ≡ tab 264 (λ i. packed_if (cell_at vram.now g.now p direct py i)) }
 {
     let first = p.scroll_x as usize / 8 * 8;
     let width = extent(p.w64, p.tile16);
     let map_row = map_row(p, py);
+    let mut out = [0; 264];
     for j in 0..33 {
         let t = character_row(vram, p, map_row, (first + j * 8) % width, py);
         let pixels = eight(vram, g, p, direct, t);
@@ -81,23 +61,22 @@ fn cells(out: &mut [u32], vram: &[u16], g: &[u32], p: BgParams, direct: bool, py
             out[j * 8 + k] = pixels[k];
         }
     }
+    out
 }
 
-// Writes the cells that the columns show, the first at `fine`, without mosaic.
-fn shifted(out: &mut [u32], cells: &[u32], fine: usize)
-    requires { (length out.old ≡ 256) × ((length cells.now ≡ 264) × (fine < 8)) }
-    ensures { out.new ≡ tab 256 (λ x. get_or cells.now (x + fine) 0) }
+// The cells that the columns show, the first at `fine`, without mosaic.
+fn shifted(cells: &[u32; 264], fine: usize) -> [u32; 256]
+    requires { fine < 8 }
+    ensures { result ≡ tab 256 (λ x. get_or cells.now (x + fine) 0) }
 {
-    for x in 0..256 {
-        out[x] = cells[x + fine];
-    }
+    std::array::from_fn(|x| cells[x + fine])
 }
 
 // The line that mosaic makes of the cells: each column shows the first of its block. Every block is
 // written 16 wide, the largest size; the next one is written over the rest, and 16 columns more than
 // are shown take the end of the last.
-fn blocks(cells: &[u32], fine: usize, block: usize) -> [u32; 272]
-    requires { (length cells.now ≡ 264) × ((fine < 8) × ((0 < block) × (block ≤ 16))) }
+fn blocks(cells: &[u32; 264], fine: usize, block: usize) -> [u32; 272]
+    requires { (fine < 8) × ((0 < block) × (block ≤ 16)) }
     ensures { take 256 result ≡ tab 256 (λ x. get_or cells.now (x - x % block + fine) 0) }
 {
     let mut line = [0; 272];
@@ -112,55 +91,43 @@ fn blocks(cells: &[u32], fine: usize, block: usize) -> [u32; 272]
     line
 }
 
-// Writes the first 256 of a line that has 16 more.
-fn firsts(out: &mut [u32], line: &[u32])
-    requires { (length out.old ≡ 256) × (length line.now ≡ 272) }
-    ensures { out.new ≡ take 256 line.now }
-{
-    for x in 0..256 {
-        out[x] = line[x];
-    }
-}
-
-// Writes what the columns show of the cells.
-fn columns(out: &mut [u32], cells: &[u32], fine: usize, block: usize)
-    requires { (length out.old ≡ 256) × ((length cells.now ≡ 264) × ((fine < 8) × ((0 < block) × (block ≤ 16)))) }
-    ensures { out.new ≡ tab 256 (λ x. get_or cells.now (x - x % block + fine) 0) }
+// What the columns show of the cells.
+fn columns(cells: &[u32; 264], fine: usize, block: usize) -> [u32; 256]
+    requires { (fine < 8) × ((0 < block) × (block ≤ 16)) }
+    ensures { result ≡ tab 256 (λ x. get_or cells.now (x - x % block + fine) 0) }
 {
     if block == 1 {
-        shifted(out, cells, fine);
-        return;
+        return shifted(cells, fine);
     }
     let line = blocks(cells, fine, block);
-    firsts(out, &line);
+    std::array::from_fn(|x| line[x])
 }
 
-// Writes what the background has at the columns of row y.
-fn drawn(out: &mut [u32], vram: &[u16], g: &[u32], r: PPURegisters, p: BgParams, y: usize)
-    requires { (length out.old ≡ 256) × BgRowSound (length g.now) p.layer y }
-    ensures { out.new ≡ tab 256 (λ x. packed_if (bg_pixel vram.now g.now r p y x)) }
+// What the background has at the columns of row y.
+fn drawn(vram: &[u16], g: &[u32; 256], r: PPURegisters, p: BgParams, y: usize) -> [u32; 256]
+    requires { BgRowSound p.layer y }
+    ensures { result ≡ tab 256 (λ x. packed_if (bg_pixel vram.now g.now r p y x)) }
 {
     let py = source_line(r, p, y);
-    let mut decoded = [0; 264];
-    cells(&mut decoded, vram, g, p, r.direct_color(), py);
+    let decoded = cells(vram, g, p, r.direct_color(), py);
     let block = registers_mosaic::inner::block(r, p.mosaic) as usize;
-    columns(out, &decoded, p.scroll_x as usize % 8, block);
+    columns(&decoded, p.scroll_x as usize % 8, block)
 }
 
-// The same of background bg into an empty row, where a screen lights it, and otherwise nothing.
+// The same of background bg, where a screen lights it, and otherwise nothing.
 pub fn background_row(
-    out: &mut [u32],
     vram: &[u16],
-    g: &[u32],
+    g: &[u32; 256],
     r: PPURegisters,
     y: usize,
-    bg: usize,
-)
-    requires { (out.old ≡ tab 256 (λ x. 0)) × ((length g.now ≡ 256) × ((y < 224) × (bg < 4))) }
-    ensures { out.new ≡ tab 256 (λ x. cond ((params_of r bg).to_main || (params_of r bg).to_sub) (packed_if (bg_pixel vram.now g.now r (params_of r bg) y x)) 0) }
+    bg: Background,
+) -> [u32; 256]
+    requires { y < 224 }
+    ensures { result ≡ tab 256 (λ x. cond ((params_of r bg.number).to_main || (params_of r bg.number).to_sub) (packed_if (bg_pixel vram.now g.now r (params_of r bg.number) y x)) 0) }
 {
     let p = bg_params(r, bg);
     if p.to_main | p.to_sub {
-        drawn(out, vram, g, r, p, y);
+        return drawn(vram, g, r, p, y);
     }
+    [0; 256]
 }

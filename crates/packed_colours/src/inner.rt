@@ -1,84 +1,56 @@
 // What a whole row does with the rows of its layers: both lines, and colour math.
-ghost use Rattle.std.specs.Prelude.{◌≡◌, ◌||◌, ◌<◌, length, eqb};
+ghost use Rattle.std.specs.Prelude.{◌≡◌, ◌||◌, ◌<◌, eqb};
 ghost use Rattle.base_lists.specs.Tab.{tab};
-ghost use Rattle.packed_colours.specs.steps.Screens.{FiveRows, bg_barred, obj_barred, screen_at, packed_sub_at, inside_at, colour_of_row};
+ghost use Rattle.packed_colours.specs.steps.Screens.{layer_window, layer_barred, screen_at, packed_sub_at, inside_at, colour_of_row};
 
 use line_laying::inner::mask;
+use line_window::Window;
 use packed_blend::inner::{keep, mix};
-use packed_pixels::inner::{backdrop, barred};
+use packed_pixels::inner::{backdrop, barred, line};
 use registers::PPURegisters;
-use registers::constants::OBJ_LAYER;
+use registers::background::Background;
 use registers::inner::bit;
 use registers_windows::inner::{bg_window, color_window, obj_window};
 use row_blend::ColorMath;
 use row_blend::inner::by_window;
 
-// The columns at which background bg is not shown on a screen that has these registers.
-fn bg_barred(r: PPURegisters, lit: u8, win: u8, bg: usize) -> [bool; 256]
-    requires { bg < 4 }
-    ensures { result ≡ tab 256 (bg_barred r lit win bg) }
+// The window of a layer: BG1 to BG4 are 0 to 3, the sprites 4.
+fn layer_window(r: PPURegisters, layer: usize) -> Window
+    ensures { result ≡ layer_window r layer }
 {
-    let window = bg_window(r, bg);
-    barred(window, bit(lit, bg), bit(win, bg))
+    match Background::try_from(layer) {
+        Ok(bg) => bg_window(r, bg),
+        Err(_) => obj_window(r),
+    }
 }
 
-// The sprites' columns.
-fn obj_barred(r: PPURegisters, lit: u8, win: u8) -> [bool; 256]
-    ensures { result ≡ tab 256 (obj_barred r lit win) }
+// The columns at which a layer is not shown on a screen that has these registers.
+fn layer_barred(r: PPURegisters, lit: u8, win: u8, layer: usize) -> [bool; 256]
+    requires { layer < 5 }
+    ensures { result ≡ tab 256 (layer_barred r lit win layer) }
 {
-    let window = obj_window(r);
-    barred(window, bit(lit, OBJ_LAYER), bit(win, OBJ_LAYER))
+    barred(layer_window(r, layer), bit(lit, layer), bit(win, layer))
 }
 
-// A screen's line.
-fn screen(
-    bg1: &[u32],
-    bg2: &[u32],
-    bg3: &[u32],
-    bg4: &[u32],
-    obj: &[u32],
-    back: u32,
-    r: PPURegisters,
-    lit: u8,
-    win: u8,
-) -> [u32; 256]
-    requires { FiveRows (length bg1.now) (length bg2.now) (length bg3.now) (length bg4.now) (length obj.now) }
-    ensures { result ≡ tab 256 (screen_at bg1.now bg2.now bg3.now bg4.now obj.now back r lit win) }
+// A screen's line, of the rows of BG1 to BG4 and the sprites.
+fn screen(rows: &[[u32; 256]; 5], back: u32, r: PPURegisters, lit: u8, win: u8) -> [u32; 256]
+    ensures { result ≡ tab 256 (screen_at rows.now back r lit win) }
 {
-    let bg1_barred = bg_barred(r, lit, win, 0);
-    let bg2_barred = bg_barred(r, lit, win, 1);
-    let bg3_barred = bg_barred(r, lit, win, 2);
-    let bg4_barred = bg_barred(r, lit, win, 3);
-    let obj_barred = obj_barred(r, lit, win);
-    packed_pixels::inner::line(
-        back,
-        bg1,
-        &bg1_barred,
-        bg2,
-        &bg2_barred,
-        bg3,
-        &bg3_barred,
-        bg4,
-        &bg4_barred,
-        obj,
-        &obj_barred,
-    )
+    let barred = std::array::from_fn(
+        |layer| -> [bool; 256]
+            requires { layer < 5 }
+            ensures { result ≡ tab 256 (layer_barred r lit win layer) }
+        { layer_barred(r, lit, win, layer) },
+    );
+    line(back, rows, &barred)
 }
 
 // The sub screen's line, where colour math takes it.
-fn sub_line(
-    bg1: &[u32],
-    bg2: &[u32],
-    bg3: &[u32],
-    bg4: &[u32],
-    obj: &[u32],
-    r: PPURegisters,
-) -> [u32; 256]
-    requires { FiveRows (length bg1.now) (length bg2.now) (length bg3.now) (length bg4.now) (length obj.now) }
-    ensures { result ≡ tab 256 (packed_sub_at bg1.now bg2.now bg3.now bg4.now obj.now r) }
+fn sub_line(rows: &[[u32; 256]; 5], r: PPURegisters) -> [u32; 256]
+    ensures { result ≡ tab 256 (packed_sub_at rows.now r) }
 {
     if bit(r.cgwsel, 1) {
-        return screen(bg1, bg2, bg3, bg4, obj, backdrop(r.coldata), r, r.ts, r.tsw);
+        return screen(rows, backdrop(r.coldata), r, r.ts, r.tsw);
     }
     [0; 256]
 }
@@ -99,24 +71,15 @@ fn idle(s: ColorMath) -> bool
 }
 
 // The colours of a row, before brightness. Where there is no math, the sub screen is not laid.
-pub fn colors(
-    bg1: &[u32],
-    bg2: &[u32],
-    bg3: &[u32],
-    bg4: &[u32],
-    obj: &[u32],
-    back: u32,
-    r: PPURegisters,
-) -> [u16; 256]
-    requires { FiveRows (length bg1.now) (length bg2.now) (length bg3.now) (length bg4.now) (length obj.now) }
-    ensures { result ≡ tab 256 (colour_of_row bg1.now bg2.now bg3.now bg4.now obj.now back r) }
+pub fn colors(rows: &[[u32; 256]; 5], back: u32, r: PPURegisters) -> [u16; 256]
+    ensures { result ≡ tab 256 (colour_of_row rows.now back r) }
 {
     let s = ColorMath::of(r);
     let inside = inside(r, s);
-    let main = screen(bg1, bg2, bg3, bg4, obj, back, r, r.tm, r.tmw);
+    let main = screen(rows, back, r, r.tm, r.tmw);
     if idle(s) {
         return keep(&main, s.clip_mode, &inside);
     }
-    let sub = sub_line(bg1, bg2, bg3, bg4, obj, r);
+    let sub = sub_line(rows, r);
     mix(&main, &sub, s, &inside)
 }

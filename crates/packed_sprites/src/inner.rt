@@ -1,8 +1,7 @@
 // What a whole row asks of the sprites.
-ghost use Rattle.std.specs.Prelude.{◌≡◌, cond, not, ◌||◌, ◌+◌, ◌<◌, ◌≤◌, length, get_or, take, leb, eqb};
+ghost use Rattle.std.specs.Prelude.{◌≡◌, cond, not, ◌||◌, ◌+◌, ◌<◌, ◌≤◌, get_or, take, leb, eqb};
 ghost use Rattle.base_lists.specs.Tab.{tab};
 ghost use Rattle.registers.specs.Bits.{bit_of};
-ghost use Rattle.row_tests.specs.Tests.{RowTested};
 ghost use Rattle.line_pixels.specs.Pixels.{none};
 ghost use Rattle.line_pixels.specs.declared.Layer.TheVariants.{Obj};
 ghost use Rattle.packed_pixels.specs.steps.Packed.{code_of, packed_if};
@@ -12,26 +11,17 @@ ghost use Rattle.tiles_row.specs.steps.Rows.{TileRowSound, row_index};
 ghost use Rattle.sprite_fetch.specs.steps.Walk.{AllSound, drawn_all};
 ghost use Rattle.sprite_layer.specs.Sprites as sprites;
 
-use packed_pixels::inner::{head, pick};
+use line_pixels::inner::select;
+use oam::OAM_SIZE;
+use packed_pixels::inner::head;
 use registers::PPURegisters;
 use registers::constants::OBJ_LAYER;
 use registers::inner::bit;
 use sprite_fetch::Fetched;
 use sprite_layer::inner::fetched_rows;
-use sprite_tile::inner::{OBJ_COLORS, PALETTE_COLORS};
-use tiles::inner::plane_word;
-use tiles_eight::inner::of_four;
+use sprite_tile::inner::palette;
+use tiles_eight::inner::shaded;
 use tiles_row::TileRow;
-
-// A palette's colours, a part of colour memory.
-fn colors<'a>(g: &'a [u32], n: u8) -> &'a [u32]
-    requires { (length g.now ≡ 256) × (n < 8) }
-    ensures { result.now ≡ sprite_colours g.now n }
-{
-    let start = OBJ_COLORS + PALETTE_COLORS * n as usize;
-    let end = start + PALETTE_COLORS;
-    &g[start..end]
-}
 
 // A sprite's code: only palettes 4 to 7 take part in color math.
 fn code(palette: u8) -> u32
@@ -41,41 +31,33 @@ fn code(palette: u8) -> u32
 }
 
 // The eight pixels of a tile's row.
-fn pixels(vram: &[u16], g: &[u32], t: TileRow) -> [u32; 8]
-    requires { (length g.now ≡ 256) × TileRowSound t }
+fn pixels(vram: &[u16], g: &[u32; 256], t: TileRow) -> [u32; 8]
+    requires { TileRowSound t }
     ensures { result ≡ tab 8 (λ k. packed_if (sprite_pixel_of (sprite_colours g.now t.palette) t.palette t.z (row_index vram.now Four t k))) }
 {
-    let z = t.z;
-    let head = head(code(t.palette), z);
-    let colors = colors(g, t.palette);
-    let w0 = plane_word(vram, t.base, t.row as usize, 0);
-    let w1 = plane_word(vram, t.base, t.row as usize, 1);
-    of_four(w0, w1, t.flip_x, head, colors)
+    let head = head(code(t.palette), t.z);
+    let colors = palette(g, t.palette);
+    shaded::<2>(vram, t, head, colors)
 }
 
 // The pixel that is held after another is drawn over it.
 fn over(pixel: u32, held: u32) -> u32
     ensures { result ≡ cond (not (eqb pixel 0)) pixel held }
 {
-    pick(pixel != 0, pixel, held)
+    select(pixel != 0, pixel, held)
 }
 
 // The 256 columns of a line that has eight more to the left of them and eight to the right.
-fn middle(line: &[u32]) -> [u32; 256]
-    requires { length line.now ≡ 272 }
+fn middle(line: &[u32; 272]) -> [u32; 256]
     ensures { result ≡ tab 256 (λ x. get_or line.now (x + 8) 0) }
 {
-    let mut out = [0; 256];
-    for x in 0..256 {
-        out[x] = line[x + 8];
-    }
-    out
+    std::array::from_fn(|x| line[x + 8])
 }
 
 // The sprite line. A tile that meets the picture is drawn whole: the line has room for the rest
 // of it.
-fn draw(f: Fetched, vram: &[u16], g: &[u32]) -> [u32; 256]
-    requires { (length g.now ≡ 256) × ((f.count ≤ 34) × AllSound f.count f.rows) }
+fn draw(f: Fetched, vram: &[u16], g: &[u32; 256]) -> [u32; 256]
+    requires { (f.count ≤ 34) × AllSound f.count f.rows }
     ensures { result ≡ tab 256 (λ x. packed_if (drawn_all vram.now g.now (take f.count f.rows) x none)) }
 {
     let mut line = [0; 272];
@@ -94,8 +76,14 @@ fn draw(f: Fetched, vram: &[u16], g: &[u32]) -> [u32; 256]
 }
 
 // The sprite line, where a screen lights the sprites, and otherwise nothing.
-pub fn sprites_row(vram: &[u16], g: &[u32], oam: &[u8], r: PPURegisters, y: usize) -> [u32; 256]
-    requires { RowTested (length g.now) (length oam.now) y }
+pub fn sprites_row(
+    vram: &[u16],
+    g: &[u32; 256],
+    oam: &[u8; OAM_SIZE],
+    r: PPURegisters,
+    y: usize,
+) -> [u32; 256]
+    requires { y < 224 }
     ensures { result ≡ tab 256 (λ x. cond (bit_of r.tm 4 || bit_of r.ts 4) (packed_if (sprites.sprite_pixel vram.now g.now oam.now r y x)) 0) }
 {
     if bit(r.tm, OBJ_LAYER) | bit(r.ts, OBJ_LAYER) {

@@ -1,4 +1,4 @@
--- What is handed back, by the verdict.
+-- What is handed back, by what the tests said.
 use Prim.Native.Nat.{ℕ, ◌+◌, ◌-◌, ◌*◌}
 use mathlib.Core.Path.{◌≡◌, sym, ap, ◌∙◌}
 use mathlib.Core.Bool.{cond}
@@ -6,26 +6,25 @@ use native.Mathlib.Omega.{arith}
 use lib.Dec.{eqb}
 use lib.ListN.{length, take, drop}
 use Rattle.base_refusal.specs.declared.Refusal.{Refusal}
-use Rattle.base_refusal.specs.declared.Verdict.{Verdict}
-use Rattle.base_refusal.specs.declared.Verdict.TheVariants.{Fine, Refused}
-use Rattle.base_refusal.specs.Verdicts.{verdict_means}
+use Rattle.std.specs.Prelude.{Result, Ok, Err}
+use Rattle.base_refusal.specs.Results.{means}
 use Rattle.picture_rows.specs.Pictures.{picture_tests, Lent, part_of, empty_part, handed, picture_row}
 
 -- the part from y x 768 to its end, as the code has it
 abbrev pub cut : Lent → ℕ → Lent
 cut p y = record { bytes = take (y * 768 + 768 - y * 768) (drop (y * 768) p.bytes); place = (p.place.0, y * 768 + p.place.1) }
 
-module _ (first second : Lent) (choice y : ℕ) (v : Verdict)
-    (tests : verdict_means v ≡ picture_tests (length first.bytes) (length second.bytes) choice y) where
+module _ (first second : Lent) (choice y : ℕ) (v : Result Unit Refusal)
+    (tests : means v ≡ picture_tests (length first.bytes) (length second.bytes) choice y) where
   -- the chosen picture's part
-  pub fine_row : (p : Lent) → v ≡ Fine → p ≡ cond (eqb choice 0) first second → cut p y ≡ picture_row first second choice y
+  pub fine_row : (p : Lent) → v ≡ Ok tt → p ≡ cond (eqb choice 0) first second → cut p y ≡ picture_row first second choice y
   unfolding picture_row
   fine_row p e c =
       let long : y * 768 + 768 - y * 768 ≡ 768 = omega arith in
       (λ i. record { bytes = take (long i) (drop (y * 768) (c i).bytes); place = ((c i).place.0, y * 768 + (c i).place.1) })
-      ∙ (λ i. handed ((sym (ap verdict_means e) ∙ tests) i) (part_of (cond (eqb choice 0) first second) y) (empty_part first))
+      ∙ (λ i. handed ((sym (ap means e) ∙ tests) i) (part_of (cond (eqb choice 0) first second) y) (empty_part first))
 
   -- or an empty one
-  pub no_row : {n : Refusal} → v ≡ Refused n → empty_part first ≡ picture_row first second choice y
+  pub no_row : {n : Refusal} → v ≡ Err n → empty_part first ≡ picture_row first second choice y
   unfolding picture_row
-  no_row e = λ i. handed ((sym (ap verdict_means e) ∙ tests) i) (part_of (cond (eqb choice 0) first second) y) (empty_part first)
+  no_row e = λ i. handed ((sym (ap means e) ∙ tests) i) (part_of (cond (eqb choice 0) first second) y) (empty_part first)

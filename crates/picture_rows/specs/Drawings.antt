@@ -1,9 +1,9 @@
 -- Drawing rows into a picture, one after another: a drawing is a row and its scene.
-use Rattle.std.specs.Prelude.{ℕ, ◌<◌, ◌≡◌, Bool, true, false, cond, eqb}
+use Rattle.std.specs.Prelude.{ℕ, ◌<◌, ◌≡◌, Bool, true, false, cond, eqb, Result}
 use mathlib.Core.List.{List, [], ◌∷◌, Memᴰ}
 use Rattle.base_refusal.specs.Answer.{Answer, value, refused, Outcome}
-use Rattle.base_refusal.specs.declared.Verdict.{Verdict}
-use Rattle.base_refusal.specs.Verdicts.{verdict_means}
+use Rattle.base_refusal.specs.declared.Refusal.{Refusal}
+use Rattle.base_refusal.specs.Results.{means}
 use Rattle.base_lists.specs.Each.{Each}
 use Rattle.base_lists.specs.Keep.{keep}
 use Rattle.row_tests.specs.Tests.{draw_tests}
@@ -44,8 +44,8 @@ Within ds es = (d : Drawing) → Memᴰ d ds → Memᴰ d es
 -- left, and is known by its contract alone.
 pub data DrawCalls : List ℕ → List Drawing → List ℕ → Type 0 where
   none : {p : List ℕ} → DrawCalls p [] p
-  call : {p q : List ℕ} {d : Drawing} {ds : List Drawing} (v : Verdict) (after : List ℕ) →
-      ◌≡◌ {A = Outcome Unit (List ℕ)} (record { said = verdict_means v; left = after }) (picture_outcome d.scene d.row p) →
+  call : {p q : List ℕ} {d : Drawing} {ds : List Drawing} (v : Result Unit Refusal) (after : List ℕ) →
+      ◌≡◌ {A = Outcome Unit (List ℕ)} (record { said = means v; left = after }) (picture_outcome d.scene d.row p) →
       DrawCalls after ds q → DrawCalls p (d ∷ ds) q
 
 abbrev pub accepts : Answer Unit → Bool

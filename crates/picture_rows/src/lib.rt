@@ -3,11 +3,11 @@
 #![tactic(auto)]
 
 ghost use Rattle.std.specs.Prelude.{◌≡◌, length};
-ghost use Rattle.base_refusal.specs.Verdicts.{verdict_means, Passed};
+ghost use Rattle.base_refusal.specs.Results.{means, Passed};
 ghost use Rattle.picture_rows.specs.Pictures.{picture_tests, lent, picture_row};
 ghost use Rattle.picture_rows.specs.steps.Pictures.{PicturesTested};
 
-use base_refusal::Verdict;
+use base_refusal::Refusal;
 use row_composite::ROW_BYTES;
 use row_renderer::PICTURE_BYTES;
 use row_tests::inner::part_tested;
@@ -16,16 +16,21 @@ use row_tests::inner::part_tested;
 pub const PICTURES: usize = 2;
 
 // The tests of both calls.
-fn tested(first: usize, second: usize, choice: usize, y: usize) -> Verdict
-    ensures { (verdict_means result ≡ picture_tests first second choice y) × (Passed result → PicturesTested first second choice y) }
+fn tested(first: usize, second: usize, choice: usize, y: usize) -> Result<(), Refusal>
+    ensures { (means result ≡ picture_tests first second choice y) × (Passed result → PicturesTested first second choice y) }
 {
     let lent = (first == PICTURE_BYTES) & (second == PICTURE_BYTES);
     part_tested(y, lent, choice < PICTURES)
 }
 
 // Would the row be handed back? If not, the refusal.
-pub fn check_picture_row(first: &[u8], second: &[u8], choice: usize, y: usize) -> Verdict
-    ensures { verdict_means result ≡ picture_tests (length first.now) (length second.now) choice y }
+pub fn check_picture_row(
+    first: &[u8],
+    second: &[u8],
+    choice: usize,
+    y: usize,
+) -> Result<(), Refusal>
+    ensures { means result ≡ picture_tests (length first.now) (length second.now) choice y }
 {
     tested(first.len(), second.len(), choice, y)
 }
@@ -35,7 +40,7 @@ pub fn picture_row<'a>(first: &'a [u8], second: &'a [u8], choice: usize, y: usiz
     ensures { lent result ≡ picture_row (lent first.entry) (lent second.entry) choice y }
 {
     match tested(first.len(), second.len(), choice, y) {
-        Verdict::Fine => {
+        Ok(()) => {
             let start = y * ROW_BYTES;
             let end = start + ROW_BYTES;
             if choice == 0 {
@@ -44,6 +49,6 @@ pub fn picture_row<'a>(first: &'a [u8], second: &'a [u8], choice: usize, y: usiz
                 &second[start..end]
             }
         }
-        Verdict::Refused(_) => &first[..0],
+        Err(_) => &first[..0],
     }
 }

@@ -1,6 +1,6 @@
 pub mod Bits
-pub mod Answers
 pub mod Screen
 pub mod Replaced
 pub mod Scene
 pub mod theorems
+pub mod steps

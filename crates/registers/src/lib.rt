@@ -4,15 +4,18 @@
 // stands in the crates registers_bg and registers_windows.
 #![tactic(auto)]
 
+pub mod background;
 pub mod constants;
 pub mod inner;
 
 ghost use Rattle.std.specs.Prelude.{◌≡◌};
-ghost use Rattle.registers.specs.Answers.{bool_means};
+ghost use Rattle.base_refusal.specs.Results.{means};
+ghost use Rattle.registers.specs.steps.Background.{IsBackground};
 ghost use Rattle.registers.specs.Screen.{cleared, mode_of, direct_colour_set, blanked, brightness_of, sprite_interlace, layer_bit};
 
+use background::Background;
 use base_refusal::Refusal;
-use constants::LAYERS;
+use constants::{BACKGROUNDS, LAYERS};
 
 // The register values, in the scene file's order; then the mosaic counter (lines left in the
 // mosaic block) and the field (true in an odd frame), which the rules take as inputs.
@@ -51,26 +54,28 @@ pub struct PPURegisters {
     pub field: bool,
 }
 
-#[derive(Clone, Copy)]
-pub enum BoolAnswer {
-    Is(bool),
-    Refused(Refusal),
-}
+impl TryFrom<usize> for Background {
+    type Error = Refusal;
 
-#[derive(Clone, Copy)]
-pub enum WordAnswer {
-    Is(u16),
-    Refused(Refusal),
+    ghost try_from_gives = { IsBackground };
+
+    fn try_from(number: usize) -> Result<Background, Refusal> {
+        if number < BACKGROUNDS {
+            Ok(Background { number })
+        } else {
+            Err(Refusal::Argument)
+        }
+    }
 }
 
 // A layer's bit of tm, ts, tmw or tsw.
-fn layer_bit(value: u8, layer: usize) -> BoolAnswer
-    ensures { bool_means result ≡ layer_bit value layer }
+fn layer_bit(value: u8, layer: usize) -> Result<bool, Refusal>
+    ensures { means result ≡ layer_bit value layer }
 {
     if layer < LAYERS {
-        BoolAnswer::Is(inner::bit(value, layer))
+        Ok(inner::bit(value, layer))
     } else {
-        BoolAnswer::Refused(Refusal::Argument)
+        Err(Refusal::Argument)
     }
 }
 
@@ -150,29 +155,29 @@ impl PPURegisters {
     }
 
     // Is the layer (BG1-4 0 to 3, sprites 4) lit on the main screen?
-    pub fn to_main(self, layer: usize) -> BoolAnswer
-        ensures { bool_means result ≡ layer_bit self.tm layer }
+    pub fn to_main(self, layer: usize) -> Result<bool, Refusal>
+        ensures { means result ≡ layer_bit self.tm layer }
     {
         layer_bit(self.tm, layer)
     }
 
     // Is it lit on the sub screen?
-    pub fn to_sub(self, layer: usize) -> BoolAnswer
-        ensures { bool_means result ≡ layer_bit self.ts layer }
+    pub fn to_sub(self, layer: usize) -> Result<bool, Refusal>
+        ensures { means result ≡ layer_bit self.ts layer }
     {
         layer_bit(self.ts, layer)
     }
 
     // Does its window bar the layer from the main screen?
-    pub fn win_main(self, layer: usize) -> BoolAnswer
-        ensures { bool_means result ≡ layer_bit self.tmw layer }
+    pub fn win_main(self, layer: usize) -> Result<bool, Refusal>
+        ensures { means result ≡ layer_bit self.tmw layer }
     {
         layer_bit(self.tmw, layer)
     }
 
     // Does it bar the layer from the sub screen?
-    pub fn win_sub(self, layer: usize) -> BoolAnswer
-        ensures { bool_means result ≡ layer_bit self.tsw layer }
+    pub fn win_sub(self, layer: usize) -> Result<bool, Refusal>
+        ensures { means result ≡ layer_bit self.tsw layer }
     {
         layer_bit(self.tsw, layer)
     }

@@ -7,15 +7,14 @@
 pub mod inner;
 
 ghost use Rattle.std.specs.Prelude.{◌≡◌};
+ghost use Rattle.base_refusal.specs.Results.{means};
 ghost use Rattle.base_refusal.specs.Answer.{value};
-ghost use Rattle.registers.specs.Answers.{bool_means, word_means};
 ghost use Rattle.registers.specs.Bits.{of_background};
-ghost use Rattle.registers_bg.specs.Answers.{size_means, scroll_means};
 ghost use Rattle.registers_bg.specs.Backgrounds.{map_base, tile_base, map_size, scroll_of, tile16_of};
 
 use base_refusal::Refusal;
-use registers::constants::BACKGROUNDS;
-use registers::{BoolAnswer, PPURegisters, WordAnswer};
+use registers::PPURegisters;
+use registers::background::Background;
 
 // A background map's size: 64 tiles wide, 64 tiles tall; otherwise 32.
 #[derive(Clone, Copy)]
@@ -31,69 +30,37 @@ pub struct Scroll {
     pub y: u16,
 }
 
-#[derive(Clone, Copy)]
-pub enum SizeAnswer {
-    Is(MapSize),
-    Refused(Refusal),
-}
-
-#[derive(Clone, Copy)]
-pub enum ScrollAnswer {
-    Is(Scroll),
-    Refused(Refusal),
-}
-
 // The word address of background bg's map.
-pub fn bg_tilemap_addr(r: PPURegisters, bg: usize) -> WordAnswer
-    ensures { word_means result ≡ of_background bg (value (map_base r bg)) }
+pub fn bg_tilemap_addr(r: PPURegisters, bg: usize) -> Result<u16, Refusal>
+    ensures { means result ≡ of_background bg (value (map_base r bg)) }
 {
-    if bg < BACKGROUNDS {
-        WordAnswer::Is(inner::bg_tilemap_addr(r, bg))
-    } else {
-        WordAnswer::Refused(Refusal::Argument)
-    }
+    Ok(inner::bg_tilemap_addr(r, Background::try_from(bg)?))
 }
 
 // The word address of its characters.
-pub fn bg_tiledata_addr(r: PPURegisters, bg: usize) -> WordAnswer
-    ensures { word_means result ≡ of_background bg (value (tile_base r bg)) }
+pub fn bg_tiledata_addr(r: PPURegisters, bg: usize) -> Result<u16, Refusal>
+    ensures { means result ≡ of_background bg (value (tile_base r bg)) }
 {
-    if bg < BACKGROUNDS {
-        WordAnswer::Is(inner::bg_tiledata_addr(r, bg))
-    } else {
-        WordAnswer::Refused(Refusal::Argument)
-    }
+    Ok(inner::bg_tiledata_addr(r, Background::try_from(bg)?))
 }
 
 // The size of its map.
-pub fn bg_tilemap_size(r: PPURegisters, bg: usize) -> SizeAnswer
-    ensures { size_means result ≡ of_background bg (value (map_size r bg)) }
+pub fn bg_tilemap_size(r: PPURegisters, bg: usize) -> Result<MapSize, Refusal>
+    ensures { means result ≡ of_background bg (value (map_size r bg)) }
 {
-    if bg < BACKGROUNDS {
-        SizeAnswer::Is(inner::bg_tilemap_size(r, bg))
-    } else {
-        SizeAnswer::Refused(Refusal::Argument)
-    }
+    Ok(inner::bg_tilemap_size(r, Background::try_from(bg)?))
 }
 
 // Its scroll.
-pub fn bg_scroll(r: PPURegisters, bg: usize) -> ScrollAnswer
-    ensures { scroll_means result ≡ of_background bg (value (scroll_of r bg)) }
+pub fn bg_scroll(r: PPURegisters, bg: usize) -> Result<Scroll, Refusal>
+    ensures { means result ≡ of_background bg (value (scroll_of r bg)) }
 {
-    if bg < BACKGROUNDS {
-        ScrollAnswer::Is(inner::bg_scroll(r, bg))
-    } else {
-        ScrollAnswer::Refused(Refusal::Argument)
-    }
+    Ok(inner::bg_scroll(r, Background::try_from(bg)?))
 }
 
 // Is its tile side 16, and not 8?
-pub fn bg_tile16(r: PPURegisters, bg: usize) -> BoolAnswer
-    ensures { bool_means result ≡ of_background bg (value (tile16_of r bg)) }
+pub fn bg_tile16(r: PPURegisters, bg: usize) -> Result<bool, Refusal>
+    ensures { means result ≡ of_background bg (value (tile16_of r bg)) }
 {
-    if bg < BACKGROUNDS {
-        BoolAnswer::Is(inner::bg_tile16(r, bg))
-    } else {
-        BoolAnswer::Refused(Refusal::Argument)
-    }
+    Ok(inner::bg_tile16(r, Background::try_from(bg)?))
 }

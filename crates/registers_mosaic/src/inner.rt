@@ -3,6 +3,7 @@ ghost use Rattle.std.specs.Prelude.{◌≡◌, ◌<◌, ◌≤◌};
 ghost use Rattle.registers_mosaic.specs.Mosaic.{mosaic_size, mosaic_on, voffset, block_if, offset_if};
 
 use registers::PPURegisters;
+use registers::background::Background;
 use registers::inner::bit;
 
 pub fn mosaic_size(r: PPURegisters) -> u8
@@ -11,11 +12,10 @@ pub fn mosaic_size(r: PPURegisters) -> u8
     r.mosaic / 16 + 1
 }
 
-pub fn bg_mosaic(r: PPURegisters, bg: usize) -> bool
-    requires { bg < 4 }
-    ensures { result ≡ mosaic_on r bg }
+pub fn bg_mosaic(r: PPURegisters, bg: Background) -> bool
+    ensures { result ≡ mosaic_on r bg.number }
 {
-    bit(r.mosaic, bg)
+    bit(r.mosaic, bg.number)
 }
 
 // The mosaic size less the counter, below zero where the counter is larger.

@@ -1,9 +1,10 @@
 // What the public calls of this crate stand on, for the crates above: a window's settings.
-ghost use Rattle.std.specs.Prelude.{◌≡◌, ◌<◌};
+ghost use Rattle.std.specs.Prelude.{◌≡◌};
 ghost use Rattle.registers_windows.specs.Windows.{window_of, bg_window, sprite_window, colour_window};
 
 use line_window::Window;
 use registers::PPURegisters;
+use registers::background::Background;
 use registers::inner::{bit, nibble};
 
 // A window's settings: the four bits `sel`, and the logic.
@@ -23,12 +24,11 @@ fn window(r: PPURegisters, sel: u8, logic: u8) -> Window
     }
 }
 
-pub fn bg_window(r: PPURegisters, bg: usize) -> Window
-    requires { bg < 4 }
-    ensures { result ≡ bg_window r bg }
+pub fn bg_window(r: PPURegisters, bg: Background) -> Window
+    ensures { result ≡ bg_window r bg.number }
 {
-    let sel = nibble(r.w12sel, r.w34sel, bg);
-    window(r, sel, (r.wbglog >> (2 * bg)) % 4)
+    let sel = nibble(r.w12sel, r.w34sel, bg.number);
+    window(r, sel, (r.wbglog >> (2 * bg.number)) % 4)
 }
 
 pub fn obj_window(r: PPURegisters) -> Window

@@ -1,5 +1,6 @@
 // The registers of a scene.
 use registers::PPURegisters;
+use registers::background::Background;
 use test_replay::drawing::low;
 use test_replay::section;
 
@@ -18,23 +19,22 @@ const ORDER: [u8; 48] = [
 // above the map are shown.
 pub(crate) fn registers(n: u16, seed: u32) -> PPURegisters {
     let mut r = section::registers(ORDER, seed);
-    r.bgmode = r.bgmode / 8 % 32 * 8 + MODES[(n % 20) as usize] % 8;
+    r.bgmode = r.bgmode & !7 | MODES[usize::from(n % 20)];
     r.cgwsel = low(n / 8 % 2);
-    if n / 4 % 7 != 6 {
-        return r;
+    if n / 4 % 7 == 6 {
+        r.mosaic = r.mosaic | 0x8f;
+        r.bg1vofs = r.bg1vofs % 4;
+        r.bgvofs = r.bgvofs.map(|v| v % 4);
     }
-    let v = r.bgvofs;
-    r.mosaic = r.mosaic | 0x8f;
-    r.bg1vofs = r.bg1vofs % 4;
-    r.bgvofs = [v[0] % 4, v[1] % 4, v[2] % 4];
     r
 }
 
 // Among the backgrounds of a mode, each in turn.
-pub(crate) fn background(mode: u8, turn: usize) -> usize {
-    match mode {
+pub(crate) fn background(mode: u8, turn: usize) -> Background {
+    let number = match mode {
         0 => turn % 4,
         3 => turn % 2,
         _ => turn % 3,
-    }
+    };
+    Background { number }
 }

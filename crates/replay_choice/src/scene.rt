@@ -1,35 +1,45 @@
 // The sprite memories that are searched.
 use test_replay::drawing::drawn;
-use test_replay::placing::{Place, column, with};
+use test_replay::placing::{Place, column, write};
 
-// Three kinds of scenes: any column and top; a crowd at the first row; tops from 240 on.
-const PLACES: [Place; 3] = [Place::Any, Place::Edge, Place::Edge];
+// A kind of scenes: any column and top; a crowd at the first row; tops from 240 on.
+#[derive(Clone, Copy)]
+pub(crate) enum Kind {
+    Any,
+    Crowd,
+    Above,
+}
 
-fn top(kind: usize, first: u8, c: u16) -> u16 {
+fn place(kind: Kind) -> Place {
     match kind {
-        0 => c,
-        1 => first as u16 + c % 16,
-        _ => 240 + c % 16,
+        Kind::Any => Place::Any,
+        Kind::Crowd | Kind::Above => Place::Edge,
+    }
+}
+
+fn top(kind: Kind, first: u8, c: u16) -> u16 {
+    match kind {
+        Kind::Any => c,
+        Kind::Crowd => u16::from(first) + c % 16,
+        Kind::Above => 240 + c % 16,
     }
 }
 
 // A scene of a kind, for which 512 numbers are drawn.
-pub(crate) fn fill(kind: usize, first: u8, seed: u32) -> [u8; 544] {
-    let place = PLACES[kind % 3];
+pub(crate) fn fill(kind: Kind, first: u8, seed: u32) -> [u8; 544] {
     let mut oam = [0u8; 544];
     let mut x = seed;
-    for i in 0..128usize {
+    for i in 0..128 {
         let n = drawn(x);
-        let large = n.a / 32 % 2 == 1;
-        let more = with(
-            oam,
+        let x9 = column(place(kind), n.a, n.b);
+        write(
+            &mut oam,
             i,
-            column(place, n.a, n.b),
+            x9,
             top(kind, first, n.c),
             n.d,
-            large,
+            n.a / 32 % 2 == 1,
         );
-        oam = more;
         x = n.x;
     }
     oam
@@ -38,17 +48,16 @@ pub(crate) fn fill(kind: usize, first: u8, seed: u32) -> [u8; 544] {
 // Every sprite left of the picture.
 pub(crate) fn hide(row: u8) -> [u8; 544] {
     let mut oam = [0u8; 544];
-    for i in 0..128usize {
-        let more = with(oam, i, 300, row as u16, 0, false);
-        oam = more;
+    for i in 0..128 {
+        write(&mut oam, i, 300, u16::from(row), 0, false);
     }
     oam
 }
 
 // One sprite more that meets the row, for which four numbers are drawn.
-pub(crate) fn pile(oam: [u8; 544], i: usize, row: u8, mixed: bool, seed: u32) -> [u8; 544] {
+pub(crate) fn pile(oam: &mut [u8; 544], i: usize, row: u8, mixed: bool, seed: u32) {
     let n = drawn(seed);
     let x9 = column(Place::NearEdge, n.a, n.b);
-    let top = row as u16 + 256 - n.c % 4;
-    with(oam, i, x9, top, n.d, mixed & (n.a / 32 % 2 == 1))
+    let top = u16::from(row) + 256 - n.c % 4;
+    write(oam, i, x9, top, n.d, mixed & (n.a / 32 % 2 == 1));
 }

@@ -1,89 +1,52 @@
 // What an answer holds, as a number. A refusal writes a word that no list has.
-ghost use Rattle.std.specs.Prelude.{◌<◌};
+use base_refusal::Refusal;
+use registers_bg::{MapSize, Scroll};
 
-use registers::{BoolAnswer, WordAnswer};
-use registers_bg::{ScrollAnswer, SizeAnswer};
-use registers_mosaic::OffsetAnswer;
-
-fn refused() -> u64
-    ensures { result < 1 }
-{
+fn refused() -> u64 {
     io::write_all(1, b"refused ");
     0
 }
 
-fn one(b: bool) -> u64
-    ensures { result < 2 }
-{
-    if b { 1 } else { 0 }
-}
-
-pub(crate) fn bit(answer: BoolAnswer) -> u64
-    ensures { result < 2 }
-{
+pub(crate) fn bit(answer: Result<bool, Refusal>) -> u64 {
     match answer {
-        BoolAnswer::Is(b) => one(b),
-        BoolAnswer::Refused(_) => refused(),
+        Ok(b) => u64::from(b),
+        Err(_) => refused(),
     }
 }
 
-pub(crate) fn word(answer: WordAnswer) -> u64 {
+pub(crate) fn word(answer: Result<u16, Refusal>) -> u64 {
     match answer {
-        WordAnswer::Is(n) => n as u64,
-        WordAnswer::Refused(_) => refused(),
+        Ok(n) => u64::from(n),
+        Err(_) => refused(),
     }
 }
 
 // 1 if the map is wide, and 2 if it is tall.
-pub(crate) fn size(answer: SizeAnswer) -> u64 {
+pub(crate) fn size(answer: Result<MapSize, Refusal>) -> u64 {
     match answer {
-        SizeAnswer::Is(s) => one(s.w64) + one(s.h64) * 2,
-        SizeAnswer::Refused(_) => refused(),
+        Ok(s) => u64::from(s.w64) + u64::from(s.h64) * 2,
+        Err(_) => refused(),
     }
 }
 
 // Horizontal, then vertical.
-pub(crate) fn scrolled(answer: ScrollAnswer) -> u64 {
+pub(crate) fn scrolled(answer: Result<Scroll, Refusal>) -> u64 {
     match answer {
-        ScrollAnswer::Is(s) => s.x as u64 * 65536 + s.y as u64,
-        ScrollAnswer::Refused(_) => refused(),
+        Ok(s) => u64::from(s.x) << 16 | u64::from(s.y),
+        Err(_) => refused(),
     }
 }
 
-// How far an offset, -16 to 16, is from zero; 17 for any other.
-fn distance(z: i16) -> u64 {
-    match z {
-        0 => 0,
-        -1 | 1 => 1,
-        -2 | 2 => 2,
-        -3 | 3 => 3,
-        -4 | 4 => 4,
-        -5 | 5 => 5,
-        -6 | 6 => 6,
-        -7 | 7 => 7,
-        -8 | 8 => 8,
-        -9 | 9 => 9,
-        -10 | 10 => 10,
-        -11 | 11 => 11,
-        -12 | 12 => 12,
-        -13 | 13 => 13,
-        -14 | 14 => 14,
-        -15 | 15 => 15,
-        -16 | 16 => 16,
-        _ => 17,
-    }
-}
-
-// Writes an offset in decimal.
-pub(crate) fn print_offset(answer: OffsetAnswer) {
+// Writes an offset, -16 to 16, in decimal; any other as 17.
+pub(crate) fn print_offset(answer: Result<i16, Refusal>) {
     match answer {
-        OffsetAnswer::Is(z) => {
+        Ok(z) => {
             if z < 0 {
                 io::write_all(1, b"-");
             }
-            io::print_decimal(1, distance(z));
+            io::print_decimal(1, u64::from(z.unsigned_abs().min(17)));
         }
-        OffsetAnswer::Refused(_) => {
+        Err(_) => {
             refused();
         }
     }

@@ -10,16 +10,17 @@ fn show(r: PPURegisters, bg: usize) {
     digits(word(registers_bg::bg_tilemap_addr(r, bg)), 4);
     digits(word(registers_bg::bg_tiledata_addr(r, bg)), 4);
     digits(size(registers_bg::bg_tilemap_size(r, bg)), 1);
-    digits(
-        bit(registers_bg::bg_tile16(r, bg)) + bit(registers_mosaic::bg_mosaic(r, bg)) * 2,
-        1,
-    );
+    let tile16 = bit(registers_bg::bg_tile16(r, bg));
+    let mosaic = bit(registers_mosaic::bg_mosaic(r, bg));
+    digits(mosaic << 1 | tile16, 1);
     line(word(registers_mosaic::bg_mosaic_block(r, bg)), 2);
 }
 
 pub(crate) fn backgrounds() {
-    for n in 0..1024 {
-        show(scattered((n / 4) as u8), n % 4);
+    for v in 0..=255u8 {
+        for bg in 0..4 {
+            show(scattered(v), bg);
+        }
     }
 }
 
@@ -35,51 +36,38 @@ fn offsets(r: PPURegisters) {
 
 // Every mosaic size, and for each the counters 0 to 16.
 pub(crate) fn counters() {
-    for n in 0..272u16 {
-        let mut r = PPURegisters::new();
-        r.mosaic = (n / 17 * 16 + n % 16) as u8;
-        r.mosaic_vcounter = (n % 17) as u8;
-        offsets(r);
+    for size in 0..16u8 {
+        for counter in 0..17u8 {
+            let mut r = PPURegisters::new();
+            r.mosaic = size << 4 | (size + counter) % 16;
+            r.mosaic_vcounter = counter;
+            offsets(r);
+        }
     }
 }
 
-// The generator's state, and registers whose scrolls were drawn from it.
-#[derive(Clone, Copy)]
-struct Drawn {
-    x: u32,
-    r: PPURegisters,
+// The next number.
+fn drawn(x: &mut u32) -> u16 {
+    *x = next(*x);
+    test_numbers::word(*x)
 }
 
-fn draw(x: u32) -> Drawn {
+// Registers whose scrolls are drawn.
+fn draw(x: &mut u32) -> PPURegisters {
     let mut r = PPURegisters::new();
-    let a = next(x);
-    let b = next(a);
-    let c = next(b);
-    let d = next(c);
-    r.bg1hofs = test_numbers::word(a);
-    r.bghofs[0] = test_numbers::word(b);
-    r.bghofs[1] = test_numbers::word(c);
-    r.bghofs[2] = test_numbers::word(d);
-    let e = next(d);
-    let f = next(e);
-    let g = next(f);
-    let h = next(g);
-    r.bg1vofs = test_numbers::word(e);
-    r.bgvofs[0] = test_numbers::word(f);
-    r.bgvofs[1] = test_numbers::word(g);
-    r.bgvofs[2] = test_numbers::word(h);
-    Drawn { x: h, r }
+    r.bg1hofs = drawn(x);
+    r.bghofs = [drawn(x), drawn(x), drawn(x)];
+    r.bg1vofs = drawn(x);
+    r.bgvofs = [drawn(x), drawn(x), drawn(x)];
+    r
 }
 
 pub(crate) fn scroll() {
     let mut x: u32 = 4;
     for _ in 0..48u32 {
-        let d = draw(x);
-        x = d.x;
-        let r = d.r;
-        line(scrolled(registers_bg::bg_scroll(r, 0)), 8);
-        line(scrolled(registers_bg::bg_scroll(r, 1)), 8);
-        line(scrolled(registers_bg::bg_scroll(r, 2)), 8);
-        line(scrolled(registers_bg::bg_scroll(r, 3)), 8);
+        let r = draw(&mut x);
+        for bg in 0..4 {
+            line(scrolled(registers_bg::bg_scroll(r, bg)), 8);
+        }
     }
 }

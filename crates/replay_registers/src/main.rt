@@ -19,31 +19,27 @@ fn line(v: u64, n: usize) {
     io::write_all(1, b"\n");
 }
 
-// The bits of v, each k places higher and round to the start.
-fn turned(v: u8, k: u16) -> u8 {
-    let wide = (v as u16) << (k % 8);
-    (wide % 256) as u8 | (wide / 256) as u8
-}
-
 // Registers that are each another turn of v's bits, or the opposite of one.
 fn scattered(v: u8) -> PPURegisters {
     let mut r = PPURegisters::new();
     r.inidisp = v;
-    r.bgmode = turned(v, 1);
-    r.mosaic = turned(v, 2);
-    r.bgsc[0] = turned(v, 3);
-    r.bgsc[1] = turned(v, 4);
-    r.bgsc[2] = turned(v, 5);
-    r.bgsc[3] = turned(v, 6);
-    r.bg12nba = turned(v, 7);
+    r.bgmode = v.rotate_left(1);
+    r.mosaic = v.rotate_left(2);
+    r.bgsc = [
+        v.rotate_left(3),
+        v.rotate_left(4),
+        v.rotate_left(5),
+        v.rotate_left(6),
+    ];
+    r.bg12nba = v.rotate_left(7);
     r.bg34nba = !v;
-    r.tm = !turned(v, 1);
-    r.ts = !turned(v, 2);
-    r.tmw = !turned(v, 3);
-    r.tsw = !turned(v, 4);
-    r.cgwsel = !turned(v, 5);
-    r.cgadsub = !turned(v, 6);
-    r.setini = !turned(v, 7);
+    r.tm = !v.rotate_left(1);
+    r.ts = !v.rotate_left(2);
+    r.tmw = !v.rotate_left(3);
+    r.tsw = !v.rotate_left(4);
+    r.cgwsel = !v.rotate_left(5);
+    r.cgadsub = !v.rotate_left(6);
+    r.setini = !v.rotate_left(7);
     r
 }
 

@@ -1,144 +1,111 @@
 // The windows at ten layouts of their edges.
-ghost use Rattle.std.specs.Prelude.{◌<◌};
-
 use crate::answers::bit;
 use crate::{digits, line};
 use registers::PPURegisters;
 
-// Window 1's edges, window 2's, and what the other windows' bits of the registers are filled with.
+// The left and right edges of window 1 and of window 2, and what the other windows' bits of the
+// registers are filled with.
+const LAYOUTS: [([u8; 4], u8); 10] = [
+    ([40, 140, 100, 200], 0x00),
+    ([10, 60, 120, 180], 0xff),
+    ([20, 230, 90, 110], 0xa5),
+    ([90, 110, 20, 230], 0x5a),
+    ([77, 77, 78, 78], 0x3c),
+    ([150, 50, 30, 90], 0xc3),
+    ([30, 90, 150, 50], 0x96),
+    ([0, 255, 255, 0], 0x69),
+    ([0, 0, 255, 255], 0x0f),
+    ([1, 254, 128, 127], 0xf0),
+];
+
+// What is asked of a column: a background's window, that of the sprites, that of colour, or window 1
+// or window 2 alone.
 #[derive(Clone, Copy)]
-struct Layout {
-    wh0: u8,
-    wh1: u8,
-    wh2: u8,
-    wh3: u8,
-    fill: u8,
+enum Asked {
+    Background(usize),
+    Sprites,
+    Colour,
+    First,
+    Second,
 }
 
-fn laid(wh0: u8, wh1: u8, wh2: u8, wh3: u8, fill: u8) -> Layout {
-    Layout {
-        wh0,
-        wh1,
-        wh2,
-        wh3,
-        fill,
-    }
-}
+// The windows that have bits of their own in the registers, in the order of these.
+const WINDOWS: [Asked; 6] = [
+    Asked::Background(0),
+    Asked::Background(1),
+    Asked::Background(2),
+    Asked::Background(3),
+    Asked::Sprites,
+    Asked::Colour,
+];
 
-fn layout_of(n: usize) -> Layout {
-    match n {
-        0 => laid(40, 140, 100, 200, 0x00),
-        1 => laid(10, 60, 120, 180, 0xff),
-        2 => laid(20, 230, 90, 110, 0xa5),
-        3 => laid(90, 110, 20, 230, 0x5a),
-        4 => laid(77, 77, 78, 78, 0x3c),
-        5 => laid(150, 50, 30, 90, 0xc3),
-        6 => laid(30, 90, 150, 50, 0x96),
-        7 => laid(0, 255, 255, 0, 0x69),
-        8 => laid(0, 0, 255, 255, 0x0f),
-        _ => laid(1, 254, 128, 127, 0xf0),
+// The registers of a layout, in which one of the windows has these four bits and this logic. Every
+// other window's bits are the fill's.
+fn window(edges: [u8; 4], fill: u8, which: usize, bits: u8, by: u8) -> PPURegisters {
+    let mut selects = [fill; 3];
+    if let Some(select) = selects.get_mut(which / 2) {
+        let at = which % 2 * 4;
+        *select = *select & !(0x0f << at) | bits << at;
     }
-}
-
-// A register with the four bits of two windows, of which `first` is the low one.
-fn select(fill: u8, first: usize, which: usize, bits: u8) -> u8 {
-    if which < first {
-        return fill;
+    let mut logics = [fill; 2];
+    if let Some(logic) = logics.get_mut(which / 4) {
+        let at = which % 4 * 2;
+        *logic = *logic & !(0x03 << at) | by << at;
     }
-    match which - first {
-        0 => fill & 0xf0 | bits,
-        1 => fill & 0x0f | bits << 4,
-        _ => fill,
-    }
-}
-
-// A register with the logic of four windows, of which `first` is the lowest.
-fn logic(fill: u8, first: usize, which: usize, by: u8) -> u8 {
-    if which < first {
-        return fill;
-    }
-    match which - first {
-        0 => fill & 0xfc | by,
-        1 => fill & 0xf3 | by << 2,
-        2 => fill & 0xcf | by << 4,
-        3 => fill & 0x3f | by << 6,
-        _ => fill,
-    }
-}
-
-// The registers of a layout, in which one window (BG1 to BG4, sprites, colour: 0 to 5) has these
-// four bits and this logic. Every other window's bits are the fill's.
-fn window(l: Layout, which: usize, bits: u8, by: u8) -> PPURegisters {
     let mut r = PPURegisters::new();
-    r.wh0 = l.wh0;
-    r.wh1 = l.wh1;
-    r.wh2 = l.wh2;
-    r.wh3 = l.wh3;
-    r.w12sel = select(l.fill, 0, which, bits);
-    r.w34sel = select(l.fill, 2, which, bits);
-    r.wobjsel = select(l.fill, 4, which, bits);
-    r.wbglog = logic(l.fill, 0, which, by);
-    r.wobjlog = logic(l.fill, 4, which, by);
+    r.wh0 = edges[0];
+    r.wh1 = edges[1];
+    r.wh2 = edges[2];
+    r.wh3 = edges[3];
+    r.w12sel = selects[0];
+    r.w34sel = selects[1];
+    r.wobjsel = selects[2];
+    r.wbglog = logics[0];
+    r.wobjlog = logics[1];
     r
 }
 
-// What a window says of a column: 0 to 5 as above, then window 1 and window 2 alone.
-fn says(r: PPURegisters, which: usize, x: usize) -> u64
-    ensures { result < 2 }
-{
-    match which {
-        0..=3 => bit(registers_windows::bg_window_masked(r, which, x)),
-        4 => bit(registers_windows::obj_window_masked(r, x)),
-        5 => bit(registers_windows::in_color_window(r, x)),
-        6 => bit(registers_windows::in_window1(r, x)),
-        _ => bit(registers_windows::in_window2(r, x)),
+fn says(r: PPURegisters, asked: Asked, x: usize) -> u64 {
+    match asked {
+        Asked::Background(bg) => bit(registers_windows::bg_window_masked(r, bg, x)),
+        Asked::Sprites => bit(registers_windows::obj_window_masked(r, x)),
+        Asked::Colour => bit(registers_windows::in_color_window(r, x)),
+        Asked::First => bit(registers_windows::in_window1(r, x)),
+        Asked::Second => bit(registers_windows::in_window2(r, x)),
     }
 }
 
-// An edge, the column before it or the one after it, as far as there are such.
-fn near(edge: u8, step: usize) -> usize {
-    let x = edge as usize;
-    match step {
-        0 => if x == 0 { 0 } else { x - 1 },
-        1 => x,
-        _ => if x == 255 { 255 } else { x + 1 },
-    }
-}
-
-// The columns that are asked: three at each of the four edges, then 0 and 255.
-fn column(r: PPURegisters, k: usize) -> usize {
-    match k / 3 {
-        0 => near(r.wh0, k % 3),
-        1 => near(r.wh1, k % 3),
-        2 => near(r.wh2, k % 3),
-        3 => near(r.wh3, k % 3),
-        _ => if k % 3 == 0 { 0 } else { 255 },
-    }
-}
-
-// A bit for each of the 14 columns.
-fn columns(r: PPURegisters, which: usize) -> u64 {
+// A bit for each of 14 columns: each edge, the column before it and the one after it, as far as there
+// are such, then 0 and 255.
+fn columns(r: PPURegisters, asked: Asked) -> u64 {
     let mut bits: u64 = 0;
-    for k in 0..14 {
-        bits = bits % 65536 * 2 + says(r, which, column(r, k));
+    for edge in [r.wh0, r.wh1, r.wh2, r.wh3] {
+        for x in [edge.saturating_sub(1), edge, edge.saturating_add(1)] {
+            bits = bits << 1 | says(r, asked, usize::from(x));
+        }
+    }
+    for x in [0, 255] {
+        bits = bits << 1 | says(r, asked, x);
     }
     bits
 }
 
 // Window 1 and window 2; then every window at each logic, and for each the sixteen settings.
-fn show(l: Layout) {
-    let plain = window(l, 0, 0, 0);
-    digits(columns(plain, 6), 4);
-    line(columns(plain, 7), 4);
-    for n in 0..384 {
-        let which = n / 64;
-        let r = window(l, which, (n % 16) as u8, (n / 16 % 4) as u8);
-        line(columns(r, which), 4);
+fn show(edges: [u8; 4], fill: u8) {
+    let plain = window(edges, fill, 0, 0, 0);
+    digits(columns(plain, Asked::First), 4);
+    line(columns(plain, Asked::Second), 4);
+    for (which, asked) in WINDOWS.into_iter().enumerate() {
+        for by in 0..4 {
+            for bits in 0..16 {
+                line(columns(window(edges, fill, which, bits, by), asked), 4);
+            }
+        }
     }
 }
 
 pub(crate) fn masks() {
-    for n in 0..10 {
-        show(layout_of(n));
+    for (edges, fill) in LAYOUTS {
+        show(edges, fill);
     }
 }

@@ -1,43 +1,24 @@
 // Columns that are asked layer by layer, without the lines.
+use crate::scene::Scene;
 use line_pixels::{LinePixel, Lines};
-use registers::PPURegisters;
+use row_layers::layer_candidates;
 use test_replay::pixels::{bare, compare, laid};
 
 // Column x of row y, as the lines hold it.
-fn column(
-    vram: &[u16],
-    cgram: &[u16; 256],
-    oam: &[u8],
-    r: PPURegisters,
-    x: usize,
-    y: usize,
-    main: LinePixel,
-    sub: LinePixel,
-) {
-    let mut held = bare(cgram[0], r.coldata);
-    for layer in 0..5usize {
-        let more = laid(
-            held,
-            row_layers::layer_candidates(vram, cgram, oam, r, x, y, layer),
-        );
-        held = more;
+fn column(scene: Scene<'_>, x: usize, y: usize, main: LinePixel, sub: LinePixel) {
+    let cgram = scene.cgram;
+    let mut held = bare(cgram[0], scene.regs.coldata);
+    for layer in 0..5 {
+        let answer = layer_candidates(scene.vram, cgram, scene.oam, scene.regs, x, y, layer);
+        held = laid(held, answer);
     }
     compare(held, main, sub);
 }
 
 // Eight columns of row y, whose lines these are.
-pub(crate) fn check(
-    lines: Lines,
-    vram: &[u16],
-    cgram: &[u16; 256],
-    oam: &[u8],
-    r: PPURegisters,
-    y: usize,
-) {
-    let main = lines.main;
-    let sub = lines.sub;
-    for k in 0..8usize {
+pub(crate) fn check(lines: &Lines, scene: Scene<'_>, y: usize) {
+    for k in 0..8 {
         let x = (k * 37 + y % 256) % 256;
-        column(vram, cgram, oam, r, x, y, main[x], sub[x]);
+        column(scene, x, y, lines.main[x], lines.sub[x]);
     }
 }

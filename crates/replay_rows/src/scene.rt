@@ -1,8 +1,18 @@
-// The registers of a scene, of every value, and its sprites.
+// A scene, its registers, of every value, and its sprites.
+use crate::kinds::Kind;
 use registers::PPURegisters;
 use test_replay::drawing::{drawn, nth};
-use test_replay::placing::{Place, column, with};
+use test_replay::placing::{Place, column, write};
 use test_replay::section;
+
+// A scene: the memories and the registers.
+#[derive(Clone, Copy)]
+pub(crate) struct Scene<'a> {
+    pub(crate) vram: &'a [u16],
+    pub(crate) cgram: &'a [u16; 256],
+    pub(crate) oam: &'a [u8],
+    pub(crate) regs: PPURegisters,
+}
 
 // Modes 0, 1 and 3 and one of the modes that draw as mode 1, in turn.
 const MODES: [u8; 20] = [0, 1, 3, 2, 0, 1, 3, 4, 0, 1, 3, 5, 0, 1, 3, 6, 0, 1, 3, 7];
@@ -28,7 +38,7 @@ const ORDER: [u8; 48] = [
 pub(crate) fn registers(n: usize, seed: u32) -> PPURegisters {
     let mut r = section::registers(ORDER, seed);
     r.inidisp = light(n, r.inidisp);
-    r.bgmode = r.bgmode / 8 % 32 * 8 + MODES[(n / 8 + n % 8) % 20] % 8;
+    r.bgmode = r.bgmode & !7 | MODES[(n / 8 + n % 8) % 20];
     r.mosaic_vcounter = r.mosaic_vcounter % 17;
     r.field = nth(4, seed) / 256 % 2 == 1;
     r
@@ -36,32 +46,38 @@ pub(crate) fn registers(n: usize, seed: u32) -> PPURegisters {
 
 // A sprite of a crowd stands at an edge or across the picture. Of a picture's sprites three of four
 // stand left of it.
-fn place(kind: u16, a: u16) -> Place {
-    if (kind == 2) & (a / 64 % 2 == 0) {
-        return Place::Edge;
+fn place(kind: Kind, a: u16) -> Place {
+    match kind {
+        Kind::Sprites if a / 64 % 2 == 0 => Place::Edge,
+        Kind::Sprites => Place::Across,
+        Kind::Picture if a / 64 % 4 != 0 => Place::Hidden,
+        _ => Place::Any,
     }
-    if kind == 2 {
-        return Place::Across;
-    }
-    if (kind == 7) & (a / 64 % 4 != 0) {
-        return Place::Hidden;
-    }
-    Place::Any
 }
 
-fn top(kind: u16, turn: u16, c: u16) -> u16 {
-    if kind == 2 { turn % 4 * 48 + c % 64 } else { c }
+fn top(kind: Kind, turn: u8, c: u16) -> u16 {
+    if kind == Kind::Sprites {
+        u16::from(turn % 4) * 48 + c % 64
+    } else {
+        c
+    }
 }
 
 // Sprite memory, for which 512 numbers are drawn.
-pub(crate) fn sprites(kind: u16, turn: u16, seed: u32) -> [u8; 544] {
+pub(crate) fn sprites(kind: Kind, turn: u8, seed: u32) -> [u8; 544] {
     let mut oam = [0u8; 544];
     let mut x = seed;
-    for i in 0..128usize {
+    for i in 0..128 {
         let n = drawn(x);
         let x9 = column(place(kind, n.a), n.a, n.b);
-        let more = with(oam, i, x9, top(kind, turn, n.c), n.d, n.a / 32 % 2 == 1);
-        oam = more;
+        write(
+            &mut oam,
+            i,
+            x9,
+            top(kind, turn, n.c),
+            n.d,
+            n.a / 32 % 2 == 1,
+        );
         x = n.x;
     }
     oam

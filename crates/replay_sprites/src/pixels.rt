@@ -1,29 +1,24 @@
 // What the list holds of a pixel.
-ghost use Rattle.std.specs.Prelude.{◌<◌};
-
 use line_pixels::{Candidate, Layer, LinePixel, Lines, Priority, deposit};
-use test_digest::{fold, one};
+use test_digest::fold;
 use test_replay::agree;
 use test_replay::pixels::same;
 
 // A third of a sprite's priority, 0 for the backdrop's, 7 for any other.
-fn third(z: Priority) -> u64
-    ensures { result < 8 }
-{
-    let low = one(z.covers(Priority::obj(0))) + one(z.covers(Priority::obj(1)));
-    let high = one(z.covers(Priority::obj(2))) + one(z.covers(Priority::obj(3)));
-    let n = low + high;
-    if Priority::new((n * 3) as u8).covers(z) {
-        n
-    } else {
-        7
+fn third(z: Priority) -> u64 {
+    if z == Priority::BACKDROP {
+        return 0;
     }
+    for prio in 0..4u8 {
+        if z == Priority::obj(prio) {
+            return u64::from(prio) + 1;
+        }
+    }
+    7
 }
 
 // 1 for a sprite, 0 for the backdrop, 2 for any other.
-fn origin(layer: Layer) -> u64
-    ensures { result < 3 }
-{
+fn origin(layer: Layer) -> u64 {
     match layer {
         Layer::Backdrop => 0,
         Layer::Obj => 1,
@@ -33,46 +28,34 @@ fn origin(layer: Layer) -> u64
 
 // The colour, and 32,768 times the marks: 16 for a sprite, 2 times a third of its priority, 1 for the
 // math mark.
-fn whole(p: LinePixel) -> u64
-    ensures { result < 4294967296 }
-{
-    let layer = p.layer;
-    let z = p.z;
-    let marks = origin(layer) * 16 + third(z) * 2 + one(p.obj_math);
-    marks * 32768 + (p.color % 32768) as u64
+fn whole(p: LinePixel) -> u64 {
+    let marks = origin(p.layer) << 4 | third(p.z) << 1 | u64::from(p.obj_math);
+    marks << 15 | u64::from(p.color % 32768)
 }
 
 // All of main, then sub's colour and 32,768 for a sprite.
 pub(crate) fn both(main: LinePixel, sub: LinePixel) -> u64 {
-    let layer = sub.layer;
-    let under = origin(layer) * 32768 + (sub.color % 32768) as u64;
-    whole(main) * 4294967296 + under
+    let under = origin(sub.layer) << 15 | u64::from(sub.color % 32768);
+    whole(main) << 32 | under
 }
 
 // Sub's priority and math mark show in no picture: where it holds a sprite, they are the sprite line's.
 fn under(sub: LinePixel, c: Candidate) {
-    let layer = sub.layer;
-    let pixel = c.pixel;
-    agree((origin(layer) != 1) | same(sub, pixel));
+    agree((sub.layer != Layer::Obj) | same(sub, c.pixel));
 }
 
 // A digest of the sprite line over a backdrop.
-pub(crate) fn line_digest(line: [Candidate; 256], backdrop: LinePixel) -> u32 {
-    let mut d: u32 = 0;
-    for x in 0..256usize {
-        d = fold(d, whole(deposit(backdrop, line[x])));
-    }
-    d
+pub(crate) fn line_digest(line: &[Candidate; 256], backdrop: LinePixel) -> u32 {
+    line.iter()
+        .fold(0, |d, c| fold(d, whole(deposit(backdrop, *c))))
 }
 
 // A digest with all of two lines, on which the sprite line was laid.
-pub(crate) fn folded(digest: u32, lines: Lines, line: [Candidate; 256]) -> u32 {
-    let main = lines.main;
-    let sub = lines.sub;
+pub(crate) fn folded(digest: u32, lines: &Lines, line: &[Candidate; 256]) -> u32 {
     let mut d = digest;
-    for x in 0..256usize {
-        under(sub[x], line[x]);
-        d = fold(d, both(main[x], sub[x]));
+    for x in 0..256 {
+        under(lines.sub[x], line[x]);
+        d = fold(d, both(lines.main[x], lines.sub[x]));
     }
     d
 }

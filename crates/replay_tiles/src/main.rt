@@ -1,10 +1,8 @@
 // Replays the oracle's list `tiles`: the three decoders over a VRAM of random words.
 #![tactic(auto)]
 
-ghost use Rattle.std.specs.Prelude.{◌<◌};
-
+use base_refusal::Refusal;
 use test_numbers::{next, word};
-use tiles::IndexAnswer;
 
 // A line of hexadecimal digits.
 fn line(v: u64, digits: usize) {
@@ -13,12 +11,10 @@ fn line(v: u64, digits: usize) {
 }
 
 // The colour index. A refusal writes a word that no list has.
-fn index(answer: IndexAnswer) -> u64
-    ensures { result < 256 }
-{
+fn index(answer: Result<u8, Refusal>) -> u64 {
     match answer {
-        IndexAnswer::Is(n) => n as u64,
-        IndexAnswer::Refused(_) => {
+        Ok(n) => u64::from(n),
+        Err(_) => {
             io::write_all(1, b"refused ");
             0
         }
@@ -27,9 +23,9 @@ fn index(answer: IndexAnswer) -> u64
 
 fn fill(vram: &mut [u16]) {
     let mut x: u32 = 2;
-    for i in 0..vram.len() {
+    for held in vram {
         x = next(x);
-        vram[i] = word(x);
+        *held = word(x);
     }
 }
 
@@ -38,18 +34,17 @@ fn small_row(vram: &[u16], base: usize, y: usize) -> u64 {
     let mut two: u64 = 0;
     let mut four: u64 = 0;
     for x in 0..8 {
-        two = two % 268435456 * 16 + index(tiles::decode_2bpp_tile_pixel_from(vram, base, x, y));
-        four = four % 268435456 * 16 + index(tiles::decode_4bpp_tile_pixel_from(vram, base, x, y));
+        two = two << 4 | index(tiles::decode_2bpp_tile_pixel_from(vram, base, x, y));
+        four = four << 4 | index(tiles::decode_4bpp_tile_pixel_from(vram, base, x, y));
     }
-    two % 4294967296 * 4294967296 + four % 4294967296
+    two << 32 | four
 }
 
 // A row's pixels in 8bpp, two digits each.
 fn large_row(vram: &[u16], base: usize, y: usize) -> u64 {
     let mut row: u64 = 0;
     for x in 0..8 {
-        row = row % 72057594037927936 * 256
-            + index(tiles::decode_8bpp_tile_pixel_from(vram, base, x, y));
+        row = row << 8 | index(tiles::decode_8bpp_tile_pixel_from(vram, base, x, y));
     }
     row
 }
@@ -77,25 +72,23 @@ fn wraps(vram: &[u16]) {
 }
 
 // A pixel with its three answers.
-fn pixel(vram: &[u16], base: usize, x: usize, y: usize)
-    requires { (base < 65536) × ((x < 8) × (y < 8)) }
-{
+fn pixel(vram: &[u16], base: usize, x: usize, y: usize) {
     let two = index(tiles::decode_2bpp_tile_pixel_from(vram, base, x, y));
     let four = index(tiles::decode_4bpp_tile_pixel_from(vram, base, x, y));
     let eight = index(tiles::decode_8bpp_tile_pixel_from(vram, base, x, y));
-    let place = (base * 256 + x * 16 + y) as u64;
-    line(place * 65536 + two * 4096 + four * 256 + eight, 10);
+    let place = (base << 8 | x << 4 | y) as u64;
+    line(place << 16 | two << 12 | four << 8 | eight, 10);
 }
 
 fn random(vram: &[u16]) {
     let mut state: u32 = 3;
     for _ in 0..4000u32 {
         state = next(state);
-        let base = word(state) as usize;
+        let base = usize::from(word(state));
         state = next(state);
-        let x = (word(state) % 8) as usize;
+        let x = usize::from(word(state) % 8);
         state = next(state);
-        pixel(vram, base, x, (word(state) % 8) as usize);
+        pixel(vram, base, x, usize::from(word(state) % 8));
     }
 }
 

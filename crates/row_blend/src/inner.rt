@@ -43,35 +43,19 @@ fn math_bit(layer: Layer) -> usize
 fn mark_needed(layer: Layer) -> bool
     ensures { result ≡ mark_needed layer }
 {
-    match layer {
-        Layer::Bg1 => false,
-        Layer::Bg2 => false,
-        Layer::Bg3 => false,
-        Layer::Bg4 => false,
-        Layer::Obj => true,
-        Layer::Backdrop => false,
-    }
+    layer == Layer::Obj
 }
 
 pub fn is_backdrop(layer: Layer) -> bool
     ensures { result ≡ is_backdrop layer }
 {
-    match layer {
-        Layer::Bg1 => false,
-        Layer::Bg2 => false,
-        Layer::Bg3 => false,
-        Layer::Bg4 => false,
-        Layer::Obj => false,
-        Layer::Backdrop => true,
-    }
+    layer == Layer::Backdrop
 }
 
 // Is math enabled for the layer that main's pixel came from?
 pub fn layer_enabled(layers: u8, p: LinePixel) -> bool
     ensures { result ≡ enabled layers p }
 {
-    let layer = p.layer;
-    let on = bit(layers, math_bit(layer));
-    let needed = mark_needed(layer);
-    on & (p.obj_math | !needed)
+    let on = bit(layers, math_bit(p.layer));
+    on & (p.obj_math | !mark_needed(p.layer))
 }

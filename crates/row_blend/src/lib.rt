@@ -9,12 +9,12 @@ ghost use Rattle.row_blend.specs.Blend.{settings_of, colour_of};
 
 use colour::color_math;
 use line_pixels::LinePixel;
-use line_pixels::inner::pick_color;
+use line_pixels::inner::select;
 use registers::PPURegisters;
 use registers::inner::bit;
 
 // What cgwsel, cgadsub and coldata say of colour math.
-#[derive(Clone, Copy)]
+#[derive(Clone, Copy, Debug, PartialEq, Eq)]
 pub struct ColorMath {
     // The regions that keep main's colour and that allow math, 0 to 3.
     pub clip_mode: u8,
@@ -47,16 +47,16 @@ impl ColorMath {
 }
 
 // The colour of a pixel, before brightness.
+#[tactic(auto, unfolding(crate::specs::Blend::colour_of))]
 pub fn color(s: ColorMath, main: LinePixel, sub: LinePixel, inside: bool) -> u16
     ensures { result ≡ colour_of s main sub inside }
 {
-    let under = sub.layer;
     let keep_main = inner::region(s.clip_mode, inside);
-    let main_color = pick_color(keep_main, main.color, 0);
-    let clear = inner::is_backdrop(under);
-    let operand = pick_color(s.use_subscreen & !clear, sub.color, s.fixed);
+    let main_color = select(keep_main, main.color, 0);
+    let clear = inner::is_backdrop(sub.layer);
+    let operand = select(s.use_subscreen & !clear, sub.color, s.fixed);
     let half = s.half & (keep_main & !(s.use_subscreen & clear));
     let mixed = color_math(main_color, operand, s.subtract, half);
     let on = inner::region(s.math_region, inside) & inner::layer_enabled(s.layers, main);
-    pick_color(on, mixed, main_color)
+    select(on, mixed, main_color)
 }

@@ -9,7 +9,7 @@ ghost use Rattle.row_composite.specs.Composite.{row_byte_at, black_row, row_byte
 
 use colour::inner::lighten;
 use line_laying::inner::mask;
-use line_pixels::inner::pick_color;
+use line_pixels::inner::select;
 use line_pixels::{LinePixel, Lines};
 use registers::PPURegisters;
 use registers::constants::SCREEN_WIDTH;
@@ -18,48 +18,36 @@ use row_blend::ColorMath;
 use row_blend::inner::{by_window, region};
 
 // The colours of a row, before brightness.
-fn mix(lines: Lines, s: ColorMath, inside: [bool; 256]) -> [u16; 256]
-    ensures { result ≡ tab 256 (λ x. colour_of s (get_or lines.main x no_pixel) (get_or lines.sub x no_pixel) (get_or inside x false)) }
+fn mix(lines: &Lines, s: ColorMath, inside: &[bool; 256]) -> [u16; 256]
+    ensures { result ≡ tab 256 (λ x. colour_of s (get_or lines.now.main x no_pixel) (get_or lines.now.sub x no_pixel) (get_or inside.now x false)) }
 {
-    let over = lines.main;
-    let under = lines.sub;
-    let mut out = [0; 256];
-    for x in 0..256 {
-        out[x] = row_blend::color(s, over[x], under[x], inside[x]);
-    }
-    out
+    std::array::from_fn(|x| row_blend::color(s, lines.main[x], lines.sub[x], inside[x]))
 }
 
 // The colours of a row without math.
-fn keep(line: [LinePixel; 256], clip_mode: u8, inside: [bool; 256]) -> [u16; 256]
-    ensures { result ≡ tab 256 (λ x. cond (region clip_mode (get_or inside x false)) (get_or line x no_pixel).color 0) }
+fn keep(line: &[LinePixel; 256], clip_mode: u8, inside: &[bool; 256]) -> [u16; 256]
+    ensures { result ≡ tab 256 (λ x. cond (region clip_mode (get_or inside.now x false)) (get_or line.now x no_pixel).color 0) }
 {
-    let mut out = [0; 256];
-    for x in 0..256 {
-        let p = line[x];
-        out[x] = pick_color(region(clip_mode, inside[x]), p.color, 0);
-    }
-    out
+    std::array::from_fn(|x| select(region(clip_mode, inside[x]), line[x].color, 0))
 }
 
 // The colours of a row. Where no layer takes part in math, or no region allows it, none is done.
-fn colors(lines: Lines, s: ColorMath, inside: [bool; 256]) -> [u16; 256]
-    ensures { result ≡ tab 256 (λ x. colour_of s (get_or lines.main x no_pixel) (get_or lines.sub x no_pixel) (get_or inside x false)) }
+fn colors(lines: &Lines, s: ColorMath, inside: &[bool; 256]) -> [u16; 256]
+    ensures { result ≡ tab 256 (λ x. colour_of s (get_or lines.now.main x no_pixel) (get_or lines.now.sub x no_pixel) (get_or inside.now x false)) }
 {
-    let over = lines.main;
     if s.layers == 0 {
-        return keep(over, s.clip_mode, inside);
+        return keep(&lines.main, s.clip_mode, inside);
     }
     if s.math_region == 3 {
-        return keep(over, s.clip_mode, inside);
+        return keep(&lines.main, s.clip_mode, inside);
     }
     mix(lines, s, inside)
 }
 
 // Writes a row of colours at a brightness.
-pub fn brighten(row: &mut [u8], colors: [u16; 256], brightness: u16)
+pub fn brighten(row: &mut [u8], colors: &[u16; 256], brightness: u16)
     requires { (length row.old ≡ 768) × (brightness < 16) }
-    ensures { row.new ≡ tab 768 (row_byte_at (λ x. get_or colors x 0) brightness) }
+    ensures { row.new ≡ tab 768 (row_byte_at (λ x. get_or colors.now x 0) brightness) }
 {
     for x in 0..SCREEN_WIDTH {
         let c = colors[x];
@@ -74,15 +62,13 @@ pub fn black(row: &mut [u8])
     requires { length row.old ≡ 768 }
     ensures { row.new ≡ black_row }
 {
-    for i in 0..768 {
-        row[i] = 0;
-    }
+    row.fill(0);
 }
 
 // Writes the row that both lines make.
-pub fn composite(row: &mut [u8], lines: Lines, r: PPURegisters)
+pub fn composite(row: &mut [u8], lines: &Lines, r: PPURegisters)
     requires { length row.old ≡ 768 }
-    ensures { row.new ≡ row_bytes r lines }
+    ensures { row.new ≡ row_bytes r lines.now }
 {
     if r.force_blank() {
         black(row);
@@ -91,6 +77,6 @@ pub fn composite(row: &mut [u8], lines: Lines, r: PPURegisters)
     let s = ColorMath::of(r);
     let w = color_window(r);
     let inside = mask(w, by_window(s.clip_mode) | by_window(s.math_region));
-    let colors = colors(lines, s, inside);
-    brighten(row, colors, r.brightness() as u16);
+    let colors = colors(lines, s, &inside);
+    brighten(row, &colors, r.brightness() as u16);
 }

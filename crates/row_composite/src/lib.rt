@@ -5,10 +5,10 @@
 pub mod inner;
 
 ghost use Rattle.std.specs.Prelude.{◌≡◌};
-ghost use Rattle.base_refusal.specs.Verdicts.{verdict_means};
+ghost use Rattle.base_refusal.specs.Results.{means};
 ghost use Rattle.row_composite.specs.Composite.{composite_outcome};
 
-use base_refusal::Verdict;
+use base_refusal::Refusal;
 use line_pixels::Lines;
 use registers::PPURegisters;
 use row_tests::inner::lent_tested;
@@ -17,15 +17,11 @@ use row_tests::inner::lent_tested;
 pub const ROW_BYTES: usize = 768;
 
 // Writes the row that both lines make into a lent row.
-pub fn composite_line(row: &mut [u8], lines: Lines, r: PPURegisters) -> Verdict
-    ensures { record { said = verdict_means result; left = row.new } ≡ composite_outcome row.old lines r }
+pub fn composite_line(row: &mut [u8], lines: &Lines, r: PPURegisters) -> Result<(), Refusal>
+    ensures { record { said = means result; left = row.new } ≡ composite_outcome row.old lines.now r }
 {
     let lent = row.len() == ROW_BYTES;
-    match lent_tested(lent, r.mosaic_vcounter) {
-        Verdict::Fine => {
-            inner::composite(row, lines, r);
-            Verdict::Fine
-        }
-        Verdict::Refused(n) => Verdict::Refused(n),
-    }
+    lent_tested(lent, r.mosaic_vcounter)?;
+    inner::composite(row, lines, r);
+    Ok(())
 }

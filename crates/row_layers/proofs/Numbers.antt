@@ -9,10 +9,9 @@ use Rattle.bg_row.specs.steps.Row.{BgRowSound}
 use Rattle.bg_modes.specs.Modes.{params_of}
 use Rattle.bg_modes.specs.theorems.Own.{own_number}
 
--- what a background's row asks for holds of its own parameters, where the row's tests are passed
-pub bg_tested : {colours y : ℕ} {p : BgParams} (r : PPURegisters) (b : ℕ) → colours ≡ 256 → y < 224 → p ≡ params_of r b → BgRowSound colours p.layer y
-bg_tested r b g y e = record {
-  whole = g;
+-- what a background's row asks for holds of its own parameters, where the row is in range
+pub bg_sound : {y : ℕ} {p : BgParams} (r : PPURegisters) (b : ℕ) → y < 224 → p ≡ params_of r b → BgRowSound p.layer y
+bg_sound r b y e = record {
   background = subst (λ (q : BgParams). background_of q.layer < 4) (sym e) (own_number r b);
   row = y;
 }

@@ -5,68 +5,44 @@
 pub mod inner;
 
 ghost use Rattle.std.specs.Prelude.{◌≡◌};
-ghost use Rattle.line_laying.specs.Answers.{candidates_mean, lines_mean};
+ghost use Rattle.base_refusal.specs.Results.{means, outcome_of};
+ghost use Rattle.line_pixels.specs.Pixels as pixels;
 ghost use Rattle.registers.specs.Scene.{scene};
 ghost use Rattle.row_layers.specs.Layers.{backdrop_outcome, layer_candidates_answer, layer_outcome};
 
-use base_refusal::{Refusal, Verdict};
-use line_laying::{CandidatesAnswer, LinesAnswer};
+use base_refusal::Refusal;
+use line_laying::Candidates;
 use line_pixels::Lines;
 use registers::PPURegisters;
 use registers::constants::{COLOUR_WORDS, LAYERS, SCREEN_WIDTH};
 use row_tests::inner::layer_tested;
 
-// Both lines of a row before any layer is laid. On a refusal they are black.
-pub fn backdrop_lines(cgram: &[u16], r: PPURegisters) -> LinesAnswer
-    ensures { lines_mean result ≡ backdrop_outcome cgram.now r }
+// Both lines of a row before any layer is laid.
+pub fn backdrop_lines(cgram: &[u16], r: PPURegisters) -> Result<Lines, Refusal>
+    ensures { outcome_of (pixels.backdrop_lines 0 0) result ≡ backdrop_outcome cgram.now r }
 {
     if cgram.len() != COLOUR_WORDS {
-        let lines = Lines::backdrops(0, 0);
-        return LinesAnswer {
-            verdict: Verdict::Refused(Refusal::Colour),
-            lines,
-        };
+        return Err(Refusal::Colour);
     }
-    let lines = Lines::backdrops(cgram[0], r.coldata);
-    LinesAnswer {
-        verdict: Verdict::Fine,
-        lines,
-    }
+    Ok(Lines::backdrops(cgram[0], r.coldata))
 }
 
-// Both lines after one layer's row y is laid over them, and no other layer's.
+// Lays one layer's row y over both lines, and no other layer's. On a refusal they are what they were.
 pub fn render_layer(
-    lines: Lines,
+    lines: &mut Lines,
     vram: &[u16],
     cgram: &[u16],
     oam: &[u8],
     r: PPURegisters,
     y: usize,
     layer: usize,
-) -> LinesAnswer
-    ensures { lines_mean result ≡ layer_outcome (scene r vram.now cgram.now oam.now) y layer lines }
+) -> Result<(), Refusal>
+    ensures { record { said = means result; left = lines.new } ≡ layer_outcome (scene r vram.now cgram.now oam.now) y layer lines.old }
 {
     let in_range = layer < LAYERS;
-    match layer_tested(
-        y,
-        vram.len(),
-        cgram.len(),
-        oam.len(),
-        r.mosaic_vcounter,
-        in_range,
-    ) {
-        Verdict::Fine => {
-            let laid = inner::lay(lines, vram, cgram, oam, r, y, layer);
-            LinesAnswer {
-                verdict: Verdict::Fine,
-                lines: laid,
-            }
-        }
-        Verdict::Refused(n) => LinesAnswer {
-            verdict: Verdict::Refused(n),
-            lines,
-        },
-    }
+    let memory = layer_tested(y, vram, cgram, oam, r.mosaic_vcounter, in_range)?;
+    inner::lay(lines, memory, r, y, layer);
+    Ok(())
 }
 
 // The candidates of a layer at column x of row y, on both screens.
@@ -78,21 +54,10 @@ pub fn layer_candidates(
     x: usize,
     y: usize,
     layer: usize,
-) -> CandidatesAnswer
-    ensures { candidates_mean result ≡ layer_candidates_answer (scene r vram.now cgram.now oam.now) y layer x }
+) -> Result<Candidates, Refusal>
+    ensures { means result ≡ layer_candidates_answer (scene r vram.now cgram.now oam.now) y layer x }
 {
     let in_range = (x < SCREEN_WIDTH) & (layer < LAYERS);
-    match layer_tested(
-        y,
-        vram.len(),
-        cgram.len(),
-        oam.len(),
-        r.mosaic_vcounter,
-        in_range,
-    ) {
-        Verdict::Fine => {
-            CandidatesAnswer::Is(inner::candidates(vram, cgram, oam, r, x, y, layer))
-        }
-        Verdict::Refused(n) => CandidatesAnswer::Refused(n),
-    }
+    let memory = layer_tested(y, vram, cgram, oam, r.mosaic_vcounter, in_range)?;
+    Ok(inner::candidates(memory, r, x, y, layer))
 }

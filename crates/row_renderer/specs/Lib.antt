@@ -3,3 +3,4 @@ pub mod Edges
 pub mod Unlit
 pub mod Bit15
 pub mod theorems
+pub mod steps

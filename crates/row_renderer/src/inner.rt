@@ -1,48 +1,68 @@
 // What the public calls of this crate stand on. A whole row is drawn over packed pixels; step by step,
 // over lines of pixels, the layers are laid in the crate row_layers.
-ghost use Rattle.std.specs.Prelude.{◌≡◌, length};
+ghost use Rattle.std.specs.Prelude.{◌≡◌, ◌<◌, length};
 ghost use Rattle.base_lists.specs.Tab.{tab};
 ghost use Rattle.line_pixels.specs.steps.Recoloured.{recoloured_lines};
-ghost use Rattle.row_tests.specs.Tests.{RowTested};
+ghost use Rattle.row_tests.specs.Memory.{lent_scene};
 ghost use Rattle.row_composite.specs.Composite.{colour_at};
 ghost use Rattle.packed_blend.specs.steps.Laws.{low16};
 ghost use Rattle.registers.specs.Scene.{scene};
 ghost use Rattle.row_renderer.specs.Renderer.{scene_lines, scene_row};
+ghost use Rattle.row_renderer.specs.steps.Rows.{layer_row};
 
+use packed_background::inner::background_row;
 use packed_colours::inner::colors;
 use packed_pixels::inner::backdrop;
+use packed_sprites::inner::sprites_row;
 use registers::PPURegisters;
+use registers::background::Background;
 use row_composite::inner::{black, brighten};
+use row_tests::inner::Memory;
 use tiles_eight::inner::wide;
 
-// The colours of row y before brightness: the rows of the five layers, and colour math.
-fn mixed(vram: &[u16], cgram: &[u16], oam: &[u8], r: PPURegisters, y: usize) -> [u16; 256]
-    requires { RowTested (length cgram.now) (length oam.now) y }
-    ensures { result ≡ tab 256 (colour_at r (recoloured_lines low16 (scene_lines (scene r vram.now cgram.now oam.now) y))) }
+// The row of a layer, packed, of colour memory in wide words: BG1 to BG4 are 0 to 3, the sprites 4.
+fn layer_row(
+    memory: Memory<'_>,
+    g: &[u32; 256],
+    r: PPURegisters,
+    y: usize,
+    layer: usize,
+) -> [u32; 256]
+    requires { y < 224 }
+    ensures { result ≡ tab 256 (layer_row (scene r memory.entry.vram.now g.now memory.entry.oam.now) y layer) }
 {
-    let back = backdrop(cgram[0]);
-    let g = wide(cgram);
-    let mut first = [0; 256];
-    packed_background::inner::background_row(&mut first, vram, &g, r, y, 0);
-    let mut second = [0; 256];
-    packed_background::inner::background_row(&mut second, vram, &g, r, y, 1);
-    let mut third = [0; 256];
-    packed_background::inner::background_row(&mut third, vram, &g, r, y, 2);
-    let mut fourth = [0; 256];
-    packed_background::inner::background_row(&mut fourth, vram, &g, r, y, 3);
-    let fifth = packed_sprites::inner::sprites_row(vram, &g, oam, r, y);
-    colors(&first, &second, &third, &fourth, &fifth, back, r)
+    match Background::try_from(layer) {
+        Ok(bg) => background_row(memory.vram, g, r, y, bg),
+        Err(_) => sprites_row(memory.vram, g, memory.oam, r, y),
+    }
+}
+
+// The colours of row y before brightness: the rows of the five layers, and colour math.
+fn mixed(memory: Memory<'_>, r: PPURegisters, y: usize) -> [u16; 256]
+    requires { y < 224 }
+    ensures { result ≡ tab 256 (colour_at r (recoloured_lines low16 (scene_lines (lent_scene r memory.entry) y))) }
+{
+    let back = backdrop(memory.cgram[0]);
+    let g = wide(memory.cgram);
+    let rows = [
+        layer_row(memory, &g, r, y, 0),
+        layer_row(memory, &g, r, y, 1),
+        layer_row(memory, &g, r, y, 2),
+        layer_row(memory, &g, r, y, 3),
+        layer_row(memory, &g, r, y, 4),
+    ];
+    colors(&rows, back, r)
 }
 
 // Draws row y into a lent row. Under forced blank nothing is laid.
-pub fn render(row: &mut [u8], vram: &[u16], cgram: &[u16], oam: &[u8], r: PPURegisters, y: usize)
-    requires { RowTested (length cgram.now) (length oam.now) y × (length row.old ≡ 768) }
-    ensures { row.new ≡ scene_row (scene r vram.now cgram.now oam.now) y }
+pub fn render(row: &mut [u8], memory: Memory<'_>, r: PPURegisters, y: usize)
+    requires { (y < 224) × (length row.old ≡ 768) }
+    ensures { row.new ≡ scene_row (lent_scene r memory.entry) y }
 {
     if r.force_blank() {
         black(row);
         return;
     }
-    let colors = mixed(vram, cgram, oam, r, y);
-    brighten(row, colors, r.brightness() as u16);
+    let colors = mixed(memory, r, y);
+    brighten(row, &colors, r.brightness() as u16);
 }

@@ -5,11 +5,11 @@
 pub mod inner;
 
 ghost use Rattle.std.specs.Prelude.{◌≡◌};
-ghost use Rattle.base_refusal.specs.Verdicts.{verdict_means};
+ghost use Rattle.base_refusal.specs.Results.{means};
 ghost use Rattle.registers.specs.Scene.{scene};
 ghost use Rattle.row_renderer.specs.Renderer.{row_outcome, picture_outcome};
 
-use base_refusal::Verdict;
+use base_refusal::Refusal;
 use registers::PPURegisters;
 use row_composite::ROW_BYTES;
 use row_tests::inner::draw_tested;
@@ -25,24 +25,13 @@ pub fn render_scanline(
     oam: &[u8],
     r: PPURegisters,
     y: usize,
-) -> Verdict
-    ensures { record { said = verdict_means result; left = row.new } ≡ row_outcome (scene r vram.now cgram.now oam.now) y row.old }
+) -> Result<(), Refusal>
+    ensures { record { said = means result; left = row.new } ≡ row_outcome (scene r vram.now cgram.now oam.now) y row.old }
 {
     let lent = row.len() == ROW_BYTES;
-    match draw_tested(
-        y,
-        vram.len(),
-        cgram.len(),
-        oam.len(),
-        lent,
-        r.mosaic_vcounter,
-    ) {
-        Verdict::Fine => {
-            inner::render(row, vram, cgram, oam, r, y);
-            Verdict::Fine
-        }
-        Verdict::Refused(n) => Verdict::Refused(n),
-    }
+    let memory = draw_tested(y, vram, cgram, oam, lent, r.mosaic_vcounter)?;
+    inner::render(row, memory, r, y);
+    Ok(())
 }
 
 // Draws row y into its part of a lent picture.
@@ -53,24 +42,13 @@ pub fn render_into_picture(
     oam: &[u8],
     r: PPURegisters,
     y: usize,
-) -> Verdict
-    ensures { record { said = verdict_means result; left = picture.new } ≡ picture_outcome (scene r vram.now cgram.now oam.now) y picture.old }
+) -> Result<(), Refusal>
+    ensures { record { said = means result; left = picture.new } ≡ picture_outcome (scene r vram.now cgram.now oam.now) y picture.old }
 {
     let lent = picture.len() == PICTURE_BYTES;
-    match draw_tested(
-        y,
-        vram.len(),
-        cgram.len(),
-        oam.len(),
-        lent,
-        r.mosaic_vcounter,
-    ) {
-        Verdict::Fine => {
-            let start = y * ROW_BYTES;
-            let end = start + ROW_BYTES;
-            inner::render(&mut picture[start..end], vram, cgram, oam, r, y);
-            Verdict::Fine
-        }
-        Verdict::Refused(n) => Verdict::Refused(n),
-    }
+    let memory = draw_tested(y, vram, cgram, oam, lent, r.mosaic_vcounter)?;
+    let start = y * ROW_BYTES;
+    let end = start + ROW_BYTES;
+    inner::render(&mut picture[start..end], memory, r, y);
+    Ok(())
 }

@@ -1,1 +1,3 @@
 pub mod Tests
+pub mod Memory
+pub mod steps

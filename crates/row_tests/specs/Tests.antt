@@ -1,6 +1,6 @@
 -- The tests of the calls that have to do with a row. A call tests in the order of the numbers, so of the refusals that apply
 -- it answers the lowest.
-use Rattle.std.specs.Prelude.{ℕ, ◌<◌, ◌≡◌, Bool, length, ltb, leb, eqb}
+use Rattle.std.specs.Prelude.{ℕ, Bool, length, ltb, leb, eqb}
 use Rattle.base_refusal.specs.Answer.{Answer, value, provided, ◌and_then◌}
 use Rattle.registers.specs.Scene.{Scene}
 
@@ -43,12 +43,6 @@ base_tests y words colours = row_number_test y and_then vram_test words and_then
 -- the same, and the memory that the sprites are drawn from
 abbrev pub row_tests : ℕ → ℕ → ℕ → ℕ → Answer Unit
 row_tests y words colours bytes = base_tests y words colours and_then oam_test bytes
-
--- what they leave for the work
-pub record RowTested (colours bytes y : ℕ) : Type 0 where
-  pub palettes : colours ≡ 256
-  pub memory : bytes ≡ 544
-  pub row : y < 224
 
 -- the last tests: of a call that lays a row or answers for a column
 abbrev pub last_tests : ℕ → Bool → Answer Unit

@@ -1,141 +1,165 @@
-// Each test, then the tests of each kind of call. Where all are passed, the contract also says what that
-// leaves for the work.
-ghost use Rattle.std.specs.Prelude.{◌≡◌, true, ◌<◌};
+// Each test, then the tests of each kind of call. A call whose tests are passed has its memories with
+// their lengths in the type, and its row's number in range.
+ghost use Rattle.std.specs.Prelude.{◌≡◌, true, ◌<◌, length, IfOk};
 ghost use Rattle.base_refusal.specs.Answer.{◌and_then◌};
 ghost use Rattle.base_refusal.specs.Numbers.{number_of};
-ghost use Rattle.base_refusal.specs.Verdicts.{verdict_means, Passed};
-ghost use Rattle.row_tests.specs.Tests.{test, row_number_test, counter_test, base_tests, row_tests, RowTested, last_tests, lent_tests, bg_tests, choice_tests, part_tests};
+ghost use Rattle.base_refusal.specs.Results.{means, Passed};
+ghost use Rattle.base_refusal.specs.steps.Said.{said_of};
+ghost use Rattle.row_tests.specs.Tests.{test, row_number_test, oam_test, counter_test, base_tests, row_tests, last_tests, lent_tests, bg_tests, choice_tests, part_tests};
+ghost use Rattle.row_tests.specs.steps.Memory.{Lends};
 
-use base_refusal::{Refusal, Verdict};
-use oam::OAM_SIZE;
-use registers::constants::{COLOUR_WORDS, LARGEST_COUNTER, SCREEN_HEIGHT};
+use base_refusal::Refusal;
+use registers::constants::{LARGEST_COUNTER, SCREEN_HEIGHT};
 use tiles::inner::VRAM_WORDS;
 
-// Fine where the test holds, otherwise the refusal.
-fn test(holds: bool, n: Refusal) -> Verdict
-    ensures { (verdict_means result ≡ test holds (number_of n)) × (Passed result → (holds ≡ true)) }
-{
-    if holds {
-        Verdict::Fine
-    } else {
-        Verdict::Refused(n)
-    }
+// The lent memories that a row is drawn from. VRAM is read at addresses taken mod its length.
+#[derive(Clone, Copy)]
+pub struct Memory<'a> {
+    pub vram: &'a [u16],
+    pub cgram: &'a [u16; 256],
+    pub oam: &'a [u8; 544],
 }
 
-// The first refusal of two verdicts, or Fine.
-fn and_then(first: Verdict, next: Verdict) -> Verdict
-    ensures { (verdict_means result ≡ (verdict_means first and_then verdict_means next)) × (Passed result → Passed first × Passed next) }
+// Ok where the test holds, otherwise the refusal.
+fn test(holds: bool, n: Refusal) -> Result<(), Refusal>
+    ensures { (means result ≡ test holds (number_of n)) × (Passed result → (holds ≡ true)) }
 {
-    match first {
-        Verdict::Fine => next,
-        Verdict::Refused(n) => Verdict::Refused(n),
-    }
+    if holds { Ok(()) } else { Err(n) }
 }
 
 // The row's number.
-fn number_tested(y: usize) -> Verdict
-    ensures { (verdict_means result ≡ row_number_test y) × (Passed result → y < 224) }
+fn number_tested(y: usize) -> Result<(), Refusal>
+    ensures { (means result ≡ row_number_test y) × (Passed result → y < 224) }
 {
     test(y < SCREEN_HEIGHT, Refusal::Row)
 }
 
 // The mosaic counter.
-fn counter_tested(counter: u8) -> Verdict
-    ensures { verdict_means result ≡ counter_test counter }
+fn counter_tested(counter: u8) -> Result<(), Refusal>
+    ensures { means result ≡ counter_test counter }
 {
     test(counter <= LARGEST_COUNTER, Refusal::Counter)
 }
 
-// The row, VRAM and colour memory.
-fn base_tested(y: usize, words: usize, colours: usize) -> Verdict
-    ensures { (verdict_means result ≡ base_tests y words colours) × (Passed result → (y < 224) × (colours ≡ 256)) }
+// The row, VRAM and colour memory, which is handed on.
+fn base_tested<'a>(y: usize, words: usize, cgram: &'a [u16]) -> Result<&'a [u16; 256], Refusal>
+    ensures said { said_of result ≡ base_tests y words (length cgram.now) }
+    ensures held { IfOk result (λ g. (g.now ≡ cgram.now) × (y < 224)) }
 {
-    let vram = test(words == VRAM_WORDS, Refusal::Vram);
-    let colour = test(colours == COLOUR_WORDS, Refusal::Colour);
-    and_then(number_tested(y), and_then(vram, colour))
+    number_tested(y)?;
+    test(words == VRAM_WORDS, Refusal::Vram)?;
+    match <&[u16; 256]>::try_from(cgram) {
+        Ok(colours) => Ok(colours),
+        Err(_) => Err(Refusal::Colour),
+    }
+}
+
+// Sprite memory, which is handed on.
+fn oam_tested<'a>(oam: &'a [u8]) -> Result<&'a [u8; 544], Refusal>
+    ensures said { said_of result ≡ oam_test (length oam.now) }
+    ensures held { IfOk result (λ o. o.now ≡ oam.now) }
+{
+    match <&[u8; 544]>::try_from(oam) {
+        Ok(bytes) => Ok(bytes),
+        Err(_) => Err(Refusal::Oam),
+    }
 }
 
 // The row and the three memories.
-fn row_tested(y: usize, words: usize, colours: usize, bytes: usize) -> Verdict
-    ensures { (verdict_means result ≡ row_tests y words colours bytes) × (Passed result → RowTested colours bytes y) }
+fn row_tested<'a>(
+    y: usize,
+    vram: &'a [u16],
+    cgram: &'a [u16],
+    oam: &'a [u8],
+) -> Result<Memory<'a>, Refusal>
+    ensures said { said_of result ≡ row_tests y (length vram.now) (length cgram.now) (length oam.now) }
+    ensures held { IfOk result (λ m. Lends m vram.now cgram.now oam.now × (y < 224)) }
 {
-    let oam = test(bytes == OAM_SIZE, Refusal::Oam);
-    and_then(base_tested(y, words, colours), oam)
+    let cgram = base_tested(y, vram.len(), cgram)?;
+    let oam = oam_tested(oam)?;
+    Ok(Memory { vram, cgram, oam })
 }
 
 // The counter, and the other arguments, of which `in_range` says that they are in their ranges.
-fn last_tested(counter: u8, in_range: bool) -> Verdict
-    ensures { (verdict_means result ≡ last_tests counter in_range) × (Passed result → (in_range ≡ true)) }
+fn last_tested(counter: u8, in_range: bool) -> Result<(), Refusal>
+    ensures { (means result ≡ last_tests counter in_range) × (Passed result → (in_range ≡ true)) }
 {
-    let range = test(in_range, Refusal::Argument);
-    and_then(counter_tested(counter), range)
+    counter_tested(counter)?;
+    test(in_range, Refusal::Argument)
 }
 
 // The tests of a background's calls.
-pub fn bg_tested(y: usize, words: usize, colours: usize, counter: u8, in_range: bool) -> Verdict
-    ensures { (verdict_means result ≡ bg_tests y words colours counter in_range) × (Passed result → ((y < 224) × (colours ≡ 256)) × (in_range ≡ true)) }
+pub fn bg_tested<'a>(
+    y: usize,
+    words: usize,
+    cgram: &'a [u16],
+    counter: u8,
+    in_range: bool,
+) -> Result<&'a [u16; 256], Refusal>
+    ensures said { said_of result ≡ bg_tests y words (length cgram.now) counter in_range }
+    ensures held { IfOk result (λ g. (g.now ≡ cgram.now) × ((y < 224) × (in_range ≡ true))) }
 {
-    and_then(
-        base_tested(y, words, colours),
-        last_tested(counter, in_range),
-    )
+    let cgram = base_tested(y, words, cgram)?;
+    last_tested(counter, in_range)?;
+    Ok(cgram)
 }
 
 // Of the calls of the sprites, and of any layer.
-pub fn layer_tested(
+pub fn layer_tested<'a>(
     y: usize,
-    words: usize,
-    colours: usize,
-    bytes: usize,
+    vram: &'a [u16],
+    cgram: &'a [u16],
+    oam: &'a [u8],
     counter: u8,
     in_range: bool,
-) -> Verdict
-    ensures { (verdict_means result ≡ (row_tests y words colours bytes and_then last_tests counter in_range)) × (Passed result → RowTested colours bytes y × (in_range ≡ true)) }
+) -> Result<Memory<'a>, Refusal>
+    ensures said { said_of result ≡ (row_tests y (length vram.now) (length cgram.now) (length oam.now) and_then last_tests counter in_range) }
+    ensures held { IfOk result (λ m. Lends m vram.now cgram.now oam.now × ((y < 224) × (in_range ≡ true))) }
 {
-    and_then(
-        row_tested(y, words, colours, bytes),
-        last_tested(counter, in_range),
-    )
+    let memory = row_tested(y, vram, cgram, oam)?;
+    last_tested(counter, in_range)?;
+    Ok(memory)
 }
 
 // Of both lines that are written into a lent row; `lent` says that it has its length.
-pub fn lent_tested(lent: bool, counter: u8) -> Verdict
-    ensures { (verdict_means result ≡ lent_tests lent counter) × (Passed result → (lent ≡ true)) }
+pub fn lent_tested(lent: bool, counter: u8) -> Result<(), Refusal>
+    ensures { (means result ≡ lent_tests lent counter) × (Passed result → (lent ≡ true)) }
 {
-    let whole = test(lent, Refusal::Lent);
-    and_then(whole, counter_tested(counter))
+    test(lent, Refusal::Lent)?;
+    counter_tested(counter)
 }
 
 // Of a row that is drawn into a lent row or picture.
-pub fn draw_tested(
+pub fn draw_tested<'a>(
     y: usize,
-    words: usize,
-    colours: usize,
-    bytes: usize,
+    vram: &'a [u16],
+    cgram: &'a [u16],
+    oam: &'a [u8],
     lent: bool,
     counter: u8,
-) -> Verdict
-    ensures { (verdict_means result ≡ (row_tests y words colours bytes and_then lent_tests lent counter)) × (Passed result → RowTested colours bytes y × (lent ≡ true)) }
+) -> Result<Memory<'a>, Refusal>
+    ensures said { said_of result ≡ (row_tests y (length vram.now) (length cgram.now) (length oam.now) and_then lent_tests lent counter) }
+    ensures held { IfOk result (λ m. Lends m vram.now cgram.now oam.now × ((y < 224) × (lent ≡ true))) }
 {
-    and_then(
-        row_tested(y, words, colours, bytes),
-        lent_tested(lent, counter),
-    )
+    let memory = row_tested(y, vram, cgram, oam)?;
+    lent_tested(lent, counter)?;
+    Ok(memory)
 }
 
 // Of the choice of a row's sprites.
-pub fn choice_tested(y: usize, bytes: usize) -> Verdict
-    ensures { (verdict_means result ≡ choice_tests y bytes) × (Passed result → (y < 224) × (bytes ≡ 544)) }
+pub fn choice_tested<'a>(y: usize, oam: &'a [u8]) -> Result<&'a [u8; 544], Refusal>
+    ensures said { said_of result ≡ choice_tests y (length oam.now) }
+    ensures held { IfOk result (λ o. (o.now ≡ oam.now) × (y < 224)) }
 {
-    let oam = test(bytes == OAM_SIZE, Refusal::Oam);
-    and_then(number_tested(y), oam)
+    number_tested(y)?;
+    oam_tested(oam)
 }
 
 // Of a row of lent pictures that is handed back.
-pub fn part_tested(y: usize, lent: bool, in_range: bool) -> Verdict
-    ensures { (verdict_means result ≡ part_tests y lent in_range) × (Passed result → (y < 224) × ((lent ≡ true) × (in_range ≡ true))) }
+pub fn part_tested(y: usize, lent: bool, in_range: bool) -> Result<(), Refusal>
+    ensures { (means result ≡ part_tests y lent in_range) × (Passed result → (y < 224) × ((lent ≡ true) × (in_range ≡ true))) }
 {
-    let whole = test(lent, Refusal::Lent);
-    let range = test(in_range, Refusal::Argument);
-    and_then(number_tested(y), and_then(whole, range))
+    number_tested(y)?;
+    test(lent, Refusal::Lent)?;
+    test(in_range, Refusal::Argument)
 }

@@ -1,39 +1,65 @@
--- A number that is put byte by byte.
-use Prim.Native.Nat.{ℕ, ◌+◌, ◌-◌, ◌/◌, ◌%◌, ◌^◌, ◌<◌, ◌≤◌}
-use mathlib.Core.Path.{◌≡◌, refl, sym, ap, ◌∙◌}
-use mathlib.Core.Bool.{Bool, true, false, cond, ◌&&◌}
-use mathlib.Core.List.{List}
-use native.Mathlib.Omega.{arith}
-use lib.ListN.{length, get_or, set}
-use lib.Dec.{leb, ltb}
-use borrow.Author.Tests.{lt-ltb, le-ltb, ltb-true, ltb-false}
-use Rattle.base_lists.specs.theorems.Tab.{tab_set}
-use Rattle.salvage_bytes.specs.Bytes.{is_in, with_number}
-use Rattle.salvage_bytes.specs.theorems.Numbers.{is_in_lem, number_same}
+-- A number that is put over bytes, and a file that is cut or filled.
+use Rattle.std.specs.Prelude.{ℕ, zero, suc, ◌+◌, ◌-◌, ◌/◌, ◌%◌, ◌^◌, ◌<◌, ◌≤◌, min, ◌≡◌, refl, Bool, true, false, List, ◌++◌, length, get_or, take, drop, replicate, ltb}
+use Rattle.std.specs.Int.{w32, to_le_bytes}
+use Rattle.std.proofs.Common.{sym, ◌∙◌, arith, rules, ltb-true, ltb-false, ext_get_or}
+use Rattle.std.proofs.lemmas.List.{places}
+use borrow.Rule.Slice.PartMut.{put_mid, post_of, mid_of}
+use Rattle.base_lists.specs.theorems.Tab.{by_get_d}
+use Rattle.salvage_bytes.specs.Bytes.{with_number, resized}
+use Rattle.salvage_bytes.specs.theorems.Numbers.{number_length, number_inside, number_outside, is_before, is_after}
 
--- nothing of it
-pub put_none : (k number : ℕ) (l : List ℕ) → l ≡ with_number k 0 number l
-put_none k number l = sym (number_same k 0 number l (λ j h. absurd (omega arith)))
+-- byte j of a number
+low_byte : (number j : ℕ) → j < 4 → get_or (to_le_bytes w32 number) j 0 ≡ number / 256 ^ j % 256
+low_byte number zero h = omega arith
+low_byte number (suc zero) h = omega arith
+low_byte number (suc (suc zero)) h = omega arith
+low_byte number (suc (suc (suc zero))) h = omega arith
+low_byte number (suc (suc (suc (suc j)))) h = absurd (omega arith)
 
-same_test : (k n i : ℕ) → (i ≡ k + n → ⊥) → is_in k n i ≡ is_in k (n + 1) i
-same_test k n i other = ap (λ (t : Bool). leb k i && t) (by_test (ltb i (k + n)) refl)
-  where
-    by_test : (t : Bool) → ltb i (k + n) ≡ t → t ≡ ltb i (k + (n + 1))
-    by_test true e = sym (lt-ltb i (k + (n + 1)) (let below : i < k + n = ltb-true i (k + n) e in omega arith))
-    by_test false e = sym (le-ltb i (k + (n + 1)) (let least : k + n ≤ i = ltb-false i (k + n) e in omega (arith, other)))
+-- some bytes over those from byte k on
+module _ (k n : ℕ) (bytes l : List ℕ) (few : n ≤ length bytes) (fits : k + n ≤ length l) where
+  abbrev over : List ℕ
+  over = take k l ++ (take n bytes ++ drop n (drop k l))
 
--- one byte more
-pub put_more : {out : List ℕ} (k n number : ℕ) (l : List ℕ) (b : ℕ) → out ≡ with_number k n number l →
-    k + n < length l → b ≡ number / 256 ^ n % 256 → set out (k + n) b ≡ with_number k (n + 1) number l
-unfolding with_number
-put_more k n number l b o h e =
-    let rule : ℕ → ℕ → ℕ = λ m i. cond (is_in k m i) (number / 256 ^ (i - k) % 256) (get_or l i 0) in
-    let place : k + n - k ≡ n = omega arith in
-    ap (λ (m : List ℕ). set m (k + n) b) o
-    ∙ tab_set (length l) (rule n) (rule (n + 1)) (k + n) b h
-    (e ∙ ap (λ (j : ℕ). number / 256 ^ j % 256) (sym place) ∙ ap (λ (t : Bool). cond t (number / 256 ^ (k + n - k) % 256) (get_or l (k + n) 0)) (sym (is_in_lem k (n + 1) n (omega arith))))
-    (λ x below other. ap (λ (t : Bool). cond t (number / 256 ^ (x - k) % 256) (get_or l x 0)) (same_test k n x other))
+  over_length : length over ≡ length l
+  over_length = search (rules, places)
 
--- all of them
-pub put_all : {out : List ℕ} (k j n number : ℕ) (l : List ℕ) → out ≡ with_number k j number l → j ≡ n → out ≡ with_number k n number l
-put_all k j n number l o e = o ∙ ap (λ (m : ℕ). with_number k m number l) e
+  over_before : (i : ℕ) → i < k → get_or over i 0 ≡ get_or l i 0
+  over_before i h = grind (arith, places)
+
+  over_inside : (i : ℕ) → k ≤ i → i < k + n → get_or over i 0 ≡ get_or bytes (i - k) 0
+  over_inside i h g = grind (arith, places)
+
+  over_after : (i : ℕ) → k + n ≤ i → get_or over i 0 ≡ get_or l i 0
+  over_after i h = grind (arith, places)
+
+-- the first n bytes of a number over those from byte k on
+module _ (k n number : ℕ) (l : List ℕ) (few : n ≤ 4) (fits : k + n ≤ length l) where
+  put_byte : (i : ℕ) (s t : Bool) → ltb i k ≡ s → ltb i (k + n) ≡ t →
+      get_or (over k n (to_le_bytes w32 number) l few fits) i 0 ≡ get_or (with_number k n number l) i 0
+  put_byte i true t d c =
+      let below = ltb-true i k d in
+      over_before _ _ _ _ few fits i below ∙ sym (number_outside k n number l i (is_before k n i below))
+  put_byte i false true d c =
+      let least = ltb-false i k d in
+      let most = ltb-true i (k + n) c in
+      let place : k + (i - k) ≡ i = omega arith in
+      over_inside _ _ _ _ few fits i least most
+      ∙ low_byte number (i - k) (omega arith)
+      ∙ sym (rw place at (number_inside k n number l (i - k) (omega arith) (omega arith)))
+  put_byte i false false d c =
+      let past = ltb-false i (k + n) c in
+      over_after _ _ _ _ few fits i past ∙ sym (number_outside k n number l i (is_after k n i past))
+
+  pub put_number : over k n (to_le_bytes w32 number) l few fits ≡ with_number k n number l
+  put_number =
+      ext_get_or 0 _ (with_number k n number l) (over_length _ _ _ _ few fits ∙ sym (number_length k n number l))
+      (λ i b. put_byte i (ltb i k) (ltb i (k + n)) refl refl)
+
+-- the bytes of a file that there is room for, and zeros after them
+pub cut_or_filled : (file out : List ℕ) (kept : ℕ) → kept ≡ min (length file) 66656 → length out ≡ 66656 →
+    let front = take kept file ++ post_of 0 kept out in
+    put_mid kept (66656 - kept) front (replicate (length (mid_of kept (66656 - kept) front)) 0) ≡ resized file
+unfolding resized
+cut_or_filled file out kept e h =
+    by_get_d 66656 (λ (i : ℕ). get_or file i 0) _ 0 (search (rules, places)) (λ x b. grind (arith, places))

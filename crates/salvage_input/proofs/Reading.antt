@@ -1,30 +1,18 @@
 -- What stands in the lent bytes as a file of them.
-use Prim.Native.Nat.{ℕ, ◌+◌, ◌<◌, ◌≤◌}
-use mathlib.Core.Path.{◌≡◌, refl, sym, ◌∙◌}
-use mathlib.Core.List.{List, ◌++◌}
-use native.Mathlib.Omega.{arith}
-use lib.ListN.{length, get_or, take, set, replicate, length-append, length-replicate, get_or-append, get_or-eq_default}
-use lib.Seq.{length-take-le}
+use Rattle.std.specs.Prelude.{ℕ, ◌+◌, ◌-◌, ◌≤◌, ◌≡◌, List, ◌++◌, length, get_or, take, replicate}
+use Rattle.std.proofs.Common.{sym, ◌∙◌, arith, rules, length-append}
+use Rattle.std.proofs.Math.ListN.{get_or-append}
+use Rattle.std.proofs.lemmas.List.{places, length-take-le, length-replicate}
+use borrow.Rule.Slice.PartMut.{put_mid, mid_of}
 use Rattle.base_lists.specs.theorems.Tab.{by_get_d, tab_ext}
-use Rattle.base_lists.specs.steps.Filling.{Front, front_more}
 use Rattle.salvage_bytes.specs.Bytes.{resized}
 use Rattle.salvage_input.specs.steps.Input.{Held}
 
--- the bytes that were read, where no zero is filled in yet
-pub front_read : (from : ℕ) (l : List ℕ) → length l ≡ 66656 → from ≤ 66656 → Front 66656 (λ (k : ℕ). get_or (take from l) k 0) l from
-front_read from l e h =
-    record {
-      long = e;
-      within = h;
-      is = by_get_d from (λ (k : ℕ). get_or (take from l) k 0) (take from l) 0 (length-take-le from l (omega arith)) (λ x b. refl);
-    }
-
--- a zero more
-pub front_zero : (from : ℕ) (l : List ℕ) {out : List ℕ} {i : ℕ} → length l ≡ 66656 → from ≤ 66656 → from ≤ i → i < 66656 →
-    Front 66656 (λ (k : ℕ). get_or (take from l) k 0) out i → Front 66656 (λ (k : ℕ). get_or (take from l) k 0) (set out i 0) (i + 1)
-front_zero from l {out} {i} e h least below f =
-    let long : length (take from l) ≡ from = length-take-le from l (omega arith) in
-    front_more f below 0 (sym (get_or-eq_default (take from l) 0 (omega arith)))
+-- the bytes that were read, with zeros after them
+pub filled : (got : ℕ) (read : List ℕ) → length read ≡ 66656 → got ≤ 66656 →
+    put_mid got (66656 - got) read (replicate (length (mid_of got (66656 - got) read)) 0) ≡ resized (take got read)
+unfolding resized
+filled got read e h = by_get_d 66656 (λ (i : ℕ). get_or (take got read) i 0) _ 0 (search (rules, places)) (λ x b. grind (arith, places))
 
 -- a short file
 pub held_short : {bytes : List ℕ} (got : ℕ) (read : List ℕ) → got ≤ length read → bytes ≡ resized (take got read) → Held got bytes

@@ -1,23 +1,14 @@
 // Reads a file to its end: what a scene has room for is kept, what follows is counted.
-ghost use Rattle.std.specs.Prelude.{◌≡◌, ◌≤◌, length, take};
-ghost use Rattle.salvage_bytes.specs.Bytes.{resized};
+ghost use Rattle.std.specs.Prelude.{◌≤◌};
 ghost use Rattle.salvage_input.specs.steps.Input.{Held};
+
+use scene_file::SCENE_BYTES;
 
 // The bytes of a turn of counting.
 const TURN: usize = 4096;
 
 // Counting stops here, since a loop has to end. No input is that long.
 const MOST: usize = 9223372036854775808;
-
-// Fills the bytes from one on with zeros.
-fn clear(out: &mut [u8], from: usize)
-    requires { (length out.old ≡ 66656) × (from ≤ 66656) }
-    ensures { out.new ≡ resized (take from out.old) }
-{
-    for i in from..out.len() {
-        out[i] = 0;
-    }
-}
 
 // How many bytes the input has left.
 fn rest() -> usize
@@ -36,13 +27,12 @@ fn rest() -> usize
 }
 
 // Reads a file: its first bytes into the lent ones, with zeros after its end. Says how long it is.
-pub fn read_file(out: &mut [u8]) -> usize
-    requires { length out.old ≡ 66656 }
+pub fn read_file(out: &mut [u8; SCENE_BYTES]) -> usize
     ensures { Held result out.new }
 {
     let got = io::read_full(0, out);
-    clear(out, got);
-    if got < out.len() {
+    out[got..].fill(0);
+    if got < SCENE_BYTES {
         return got;
     }
     got + rest()

@@ -5,27 +5,17 @@ pub mod inner;
 
 ghost use Rattle.salvage_input.specs.Input.{OfInput};
 
-use base_refusal::{Refusal, Verdict};
+use base_refusal::Refusal;
 use inner::read_file;
-use salvage::SalvageAnswer;
-use salvage::inner::{mend, none_listed};
+use salvage::Changes;
+use salvage::inner::mend;
 use scene_file::SCENE_BYTES;
 
-// Reads standard input to its end and makes a scene of it in the lent output.
-pub fn salvage_input(out: &mut [u8]) -> SalvageAnswer
+// Reads standard input to its end, makes a scene of it in the lent output, and answers the changes.
+pub fn salvage_input(out: &mut [u8]) -> Result<Changes, Refusal>
     ensures { OfInput result out.old out.new }
 {
-    if out.len() != SCENE_BYTES {
-        let changes = none_listed();
-        return SalvageAnswer {
-            verdict: Verdict::Refused(Refusal::Output),
-            changes,
-        };
-    }
-    let total = read_file(out);
-    let changes = mend(out, total);
-    SalvageAnswer {
-        verdict: Verdict::Fine,
-        changes,
-    }
+    let scene = out.as_mut_array::<SCENE_BYTES>().ok_or(Refusal::Output)?;
+    let total = read_file(scene);
+    Ok(mend(scene, total))
 }

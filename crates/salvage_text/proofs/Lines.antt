@@ -1,13 +1,14 @@
 -- A line that grows by bytes: what stands in its text.
-use Prim.Native.Nat.{ℕ, ◌+◌, ◌<◌, ◌≤◌}
+use Prim.Native.Nat.{ℕ, ◌+◌, ◌-◌, ◌≤◌}
 use mathlib.Core.Path.{◌≡◌, sym, ap, ◌∙◌}
-use mathlib.Core.List.{List, [], ◌∷◌, ◌++◌, append_assoc, append-nil}
+use mathlib.Core.List.{List, [], ◌++◌, append_assoc}
 use native.Mathlib.Omega.{arith}
-use native.Mathlib.Numerals.{add-one}
-use lib.ListN.{length, get_or, set, take, replicate, length-append}
-use lib.Seq.{length-take-le, take-suc, take-length}
+use lib.ListN.{length, replicate, length-append}
+use Rattle.std.proofs.Math.Seq.{take-append_seam, drop-append_seam}
+use Rattle.std.proofs.lemmas.List.{drop-replicate}
+use borrow.Rule.Slice.PartMut.{put_mid}
 use Rattle.base_lists.specs.Places.{places}
-use Rattle.base_lists.specs.theorems.Places.{places_more, take_places, places_none, length_places}
+use Rattle.base_lists.specs.theorems.Places.{take_places, places_none, length_places}
 use Rattle.salvage_text.specs.declared.TextLine.{TextLine}
 use Rattle.salvage_text.specs.Text.{text_line}
 use Rattle.salvage_text.specs.steps.Text.{written, Clean}
@@ -35,33 +36,25 @@ clean_fits line e h =
     let long : length line.text ≡ 90 = (λ i. length (e i).text) ∙ length_places 90 0 (written line) (omega arith) in
     omega arith
 
--- none of the bytes is copied yet
-pub copy_none : (line : TextLine) → Clean line → line.text ≡ places 90 0 (written line ++ [])
+-- bytes over the places after a list
+over_places : (n blank : ℕ) (l bytes : List ℕ) → length l + length bytes ≤ n →
+    put_mid (length l) (length bytes) (places n blank l) bytes ≡ places n blank (l ++ bytes)
+unfolding places
+over_places n blank l bytes h =
+    let blanks = replicate (n - length l) blank in
+    let rest : n - length l - length bytes ≡ n - length (l ++ bytes) = omega (arith, length-append l bytes) in
+    rw (take-append_seam l blanks, drop-append_seam l blanks, drop-replicate (length bytes) (n - length l) blank, rest)
+    (sym (append_assoc l bytes (replicate (n - length (l ++ bytes)) blank)))
+
+-- a clean line with some bytes after it
+pub line_longer : (line : TextLine) (bytes : List ℕ) → Clean line → line.size + length bytes ≤ 90 →
+    record { text = put_mid line.size (length bytes) line.text bytes; size = line.size + length bytes } ≡ text_line (written line ++ bytes)
 unfolding text_line
-copy_none line e = (λ i. (e i).text) ∙ ap (places 90 0) (sym (append-nil (written line)))
-
-module _ (line : TextLine) (clean : Clean line) (bytes : List ℕ) (room : line.size + length bytes ≤ 90) where
-  -- one byte more
-  pub copy_more : {text : List ℕ} (i : ℕ) → i < length bytes → text ≡ places 90 0 (written line ++ take i bytes) →
-      set text (line.size + i) (get_or bytes i 0) ≡ places 90 0 (written line ++ take (i + 1) bytes)
-  copy_more i h e =
-      let l = written line in
-      let size : line.size ≡ length l = clean_size line clean in
-      let front : length (take i bytes) ≡ i = length-take-le i bytes (omega arith) in
-      let long : length (l ++ take i bytes) ≡ line.size + i = length-append l (take i bytes) ∙ (λ j. sym size j + front j) in
-      let few : length (l ++ take i bytes) < 90 = omega arith in
-      (λ j. set (e j) (sym long j) (get_or bytes i 0))
-      ∙ (places_more 90 0 (l ++ take i bytes) (get_or bytes i 0) few
-      ∙ ap (places 90 0)
-      (append_assoc l (take i bytes) (get_or bytes i 0 ∷ [])
-      ∙ ap (λ (m : List ℕ). l ++ m) (sym (take-suc bytes i 0 h) ∙ ap (λ (k : ℕ). take k bytes) (sym (add-one i)))))
-
-  -- all of them
-  pub copy_all : {text : List ℕ} (i : ℕ) → i ≡ length bytes → text ≡ places 90 0 (written line ++ take i bytes) →
-      record { text = text; size = line.size + length bytes } ≡ text_line (written line ++ bytes)
-  unfolding text_line
-  copy_all i e t =
-      let l = written line in
-      let all : take i bytes ≡ bytes = ap (λ (k : ℕ). take k bytes) e ∙ take-length bytes in
-      let long = (λ j. clean_size line clean j + length bytes) ∙ sym (length-append l bytes) in
-      λ j. record { text = (t ∙ ap (λ (m : List ℕ). places 90 0 (l ++ m)) all) j; size = long j }
+line_longer line bytes clean room =
+    let l = written line in
+    let size : line.size ≡ length l = clean_size line clean in
+    let few : length l + length bytes ≤ 90 = omega arith in
+    λ i. record {
+      text = ((λ j. put_mid (size j) (length bytes) (clean j).text bytes) ∙ over_places 90 0 l bytes few) i;
+      size = ((λ j. size j + length bytes) ∙ sym (length-append l bytes)) i;
+    }

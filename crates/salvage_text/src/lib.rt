@@ -9,70 +9,68 @@ use salvage::{Change, Kind};
 
 // A line: the first `size` bytes of its text. The 90 are those of 5 letters, of 4 numbers with 20
 // digits and a space each, and of a newline.
-#[derive(Clone, Copy)]
+#[derive(Clone, Copy, Debug, PartialEq, Eq)]
 pub struct TextLine {
     pub text: [u8; 90],
     pub size: usize,
 }
 
-// The line and then these bytes.
-fn append(line: TextLine, bytes: &[u8]) -> TextLine
-    requires { Clean line × (line.size + length bytes.now ≤ 90) }
-    ensures { (written result ≡ written line ++ bytes.now) × ((result.size ≡ line.size + length bytes.now) × Clean result) }
-{
-    let mut text = line.text;
-    let size = line.size;
-    for i in 0..bytes.len() {
-        text[size + i] = bytes[i];
-    }
-    TextLine {
-        text,
-        size: size + bytes.len(),
-    }
-}
-
-// A line with nothing in it.
-fn empty() -> TextLine
-    ensures { (written result ≡ []) × ((result.size ≡ 0) × Clean result) }
-{
-    TextLine {
-        text: [0; 90],
-        size: 0,
-    }
-}
-
-// The line's beginning: the name of its kind.
-fn begin(kind: Kind) -> TextLine
-    ensures { (written result ≡ kind_name kind) × ((result.size ≤ 5) × Clean result) }
+// The name of a kind.
+fn name(kind: Kind) -> &'static [u8]
+    ensures { (result.now ≡ kind_name kind) × (length result.now ≤ 5) }
 {
     match kind {
-        Kind::Cut => append(empty(), b"cut"),
-        Kind::Fill => append(empty(), b"fill"),
-        Kind::Count => append(empty(), b"count"),
-        Kind::Value => append(empty(), b"value"),
+        Kind::Cut => b"cut",
+        Kind::Fill => b"fill",
+        Kind::Count => b"count",
+        Kind::Value => b"value",
     }
 }
 
-// The line, a space and a number: 21 bytes more at most.
-fn append_number(line: TextLine, n: u64) -> TextLine
-    requires { Clean line × (line.size + 21 ≤ 90) }
-    ensures { (written result ≡ written line ++ spaced (n ∷ [])) × ((result.size ≤ line.size + 21) × Clean result) }
-{
-    let mut digits = [0u8; 20];
-    let k = io::decimal(n, &mut digits);
-    append(append(line, b" "), &digits[..k])
-}
+impl TextLine {
+    // A line with nothing in it.
+    fn empty() -> TextLine
+        ensures { (written result ≡ []) × ((result.size ≡ 0) × Clean result) }
+    {
+        TextLine {
+            text: [0; 90],
+            size: 0,
+        }
+    }
 
-// The line and what its kind adds: 42 bytes more at most.
-fn append_added(line: TextLine, kind: Kind, old: u32, new: u32) -> TextLine
-    requires { Clean line × (line.size + 42 ≤ 90) }
-    ensures { (written result ≡ written line ++ spaced (added_numbers kind old new)) × ((result.size ≤ line.size + 42) × Clean result) }
-{
-    match kind {
-        Kind::Cut => line,
-        Kind::Fill => line,
-        Kind::Count => append_number(append_number(line, old as u64), new as u64),
-        Kind::Value => append_number(append_number(line, old as u64), new as u64),
+    // These bytes after it.
+    fn append(&mut self, bytes: &[u8])
+        requires { Clean self.old × (self.old.size + length bytes.now ≤ 90) }
+        ensures { (written self.new ≡ written self.old ++ bytes.now) × ((self.new.size ≡ self.old.size + length bytes.now) × Clean self.new) }
+    {
+        let end = self.size + bytes.len();
+        self.text[self.size..end].copy_from_slice(bytes);
+        self.size = end;
+    }
+
+    // A space and a number: 21 bytes more at most.
+    fn append_number(&mut self, n: u64)
+        requires { Clean self.old × (self.old.size + 21 ≤ 90) }
+        ensures { (written self.new ≡ written self.old ++ spaced (n ∷ [])) × ((self.new.size ≤ self.old.size + 21) × Clean self.new) }
+    {
+        let mut digits = [0u8; 20];
+        let k = io::decimal(n, &mut digits);
+        self.append(b" ");
+        self.append(&digits[..k]);
+    }
+
+    // What a kind adds: 42 bytes more at most.
+    fn append_added(&mut self, kind: Kind, old: u32, new: u32)
+        requires { Clean self.old × (self.old.size + 42 ≤ 90) }
+        ensures { (written self.new ≡ written self.old ++ spaced (added_numbers kind old new)) × ((self.new.size ≤ self.old.size + 42) × Clean self.new) }
+    {
+        match kind {
+            Kind::Cut | Kind::Fill => {}
+            Kind::Count | Kind::Value => {
+                self.append_number(old as u64);
+                self.append_number(new as u64);
+            }
+        }
     }
 }
 
@@ -80,9 +78,11 @@ fn append_added(line: TextLine, kind: Kind, old: u32, new: u32) -> TextLine
 pub fn line_of(c: Change) -> TextLine
     ensures { LineIs result (change_line c) }
 {
-    let kind = c.kind;
-    let first = append_number(begin(kind), c.first as u64);
-    let bytes = append_number(first, c.bytes as u64);
-    let all = append_added(bytes, kind, c.old, c.new);
-    append(all, b"\n")
+    let mut line = TextLine::empty();
+    line.append(name(c.kind));
+    line.append_number(c.first as u64);
+    line.append_number(c.bytes as u64);
+    line.append_added(c.kind, c.old, c.new);
+    line.append(b"\n");
+    line
 }

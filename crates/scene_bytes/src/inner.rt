@@ -4,19 +4,12 @@ ghost use Rattle.scene_bytes.specs.Bytes.{word_at, registers_of, words_of};
 
 use registers::PPURegisters;
 
-// A word of two bytes, the low one first.
-fn word(low: u8, high: u8) -> u16
-    ensures { result ≡ low + high * 256 }
-{
-    low as u16 + high as u16 * 256
-}
-
-// The word from byte k on.
+// The word from byte k on, its low byte first.
 pub fn word_at(bytes: &[u8], k: usize) -> u16
     requires { k + 2 ≤ length bytes.now }
     ensures { result ≡ word_at bytes.now k }
 {
-    word(bytes[k], bytes[k + 1])
+    u16::from_le_bytes([bytes[k], bytes[k + 1]])
 }
 
 // The registers, of the 48 bytes of their section.
@@ -74,7 +67,5 @@ pub fn copy(out: &mut [u8], b: &[u8])
     requires { length b.now ≡ length out.old }
     ensures { out.new ≡ b.now }
 {
-    for i in 0..out.len() {
-        out[i] = b[i];
-    }
+    out.copy_from_slice(b);
 }

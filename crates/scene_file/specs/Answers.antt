@@ -1,10 +1,13 @@
 -- What the reader's answer means.
-use Rattle.std.specs.Prelude.{ℕ, List}
-use Rattle.base_refusal.specs.Answer.{Outcome}
-use Rattle.base_refusal.specs.Verdicts.{verdict_means}
+use Rattle.std.specs.Prelude.{ℕ, List, Result, Ok, Err}
+use Rattle.base_refusal.specs.Answer.{Outcome, value, refused}
+use Rattle.base_refusal.specs.Numbers.{number_of}
+use Rattle.base_refusal.specs.declared.Refusal.{Refusal}
+use Rattle.registers.specs.declared.PPURegisters.{PPURegisters}
 use Rattle.registers.specs.Scene.{Scene, scene}
-use Rattle.scene_file.specs.declared.SceneAnswer.{SceneAnswer}
+use Rattle.registers.specs.Screen.{cleared}
 
--- beside what the targets hold
-abbrev pub scene_means : SceneAnswer → List ℕ → List ℕ → List ℕ → Outcome Unit Scene
-scene_means a v g o = record { said = verdict_means a.verdict; left = scene a.registers v g o }
+-- beside what the targets hold: the registers, which a refusal leaves cleared
+abbrev pub scene_means : Result PPURegisters Refusal → List ℕ → List ℕ → List ℕ → Outcome Unit Scene
+scene_means (Ok r) v g o = record { said = value tt; left = scene r v g o }
+scene_means (Err n) v g o = record { said = refused (number_of n); left = scene cleared v g o }

@@ -1,4 +1,5 @@
 -- The bytes that were read, one after another: what the tests of the pieces say of them all.
+use Rattle.std.specs.Prelude.{Result, Ok, Err}
 use Prim.Native.Nat.{ℕ, ◌+◌, ◌*◌, ◌≤◌, ◌<◌}
 use mathlib.Core.Path.{◌≡◌, refl, sym, ap, subst, ◌∙◌}
 use mathlib.Core.Bool.{Bool, true, false}
@@ -9,11 +10,9 @@ use lib.Seq.{take_all, take_at, drop_at, drop-append-le, drop-drop, get_or-take,
 use lib.Dec.{eqb, leb, ltb}
 use borrow.Author.Tests.{leb-true, leb-false, le-leb, lt-leb, ltb-false, eqb-false, ne_eqb}
 use Rattle.base_refusal.specs.Answer.{Answer, value, refused, provided, ◌and_then◌}
-use Rattle.base_refusal.specs.Verdicts.{verdict_means, Passed}
-use Rattle.base_refusal.specs.theorems.Verdicts.{passed}
+use Rattle.base_refusal.specs.Results.{means, Passed}
+use Rattle.base_refusal.specs.theorems.Results.{passed}
 use Rattle.base_refusal.specs.declared.Refusal.{Refusal}
-use Rattle.base_refusal.specs.declared.Verdict.{Verdict}
-use Rattle.base_refusal.specs.declared.Verdict.TheVariants.{Fine, Refused}
 use Rattle.scene_file.specs.File.{count_at, section_tests, end_tests, value_tests, scene_tests}
 use Rattle.scene_bytes.specs.Bytes.{registers_of, words_of}
 use Rattle.scene_file.specs.steps.Pieces.{count_tests, body_tests, values_in}
@@ -93,25 +92,25 @@ module _ (n : ℕ) where
       counted (b ++ rest) (le-leb 4 (length (b ++ rest)) (omega arith)) (ap (λ (k : ℕ). eqb k n) (count_before b rest (omega arith)) ∙ right)
       ∙ ap (λ (t : Bool). provided t 9 (value tt)) (le-leb (4 + n) (length (b ++ rest)) (omega arith))
 
-said_fine : (w : Verdict) → Passed w → verdict_means w ≡ value tt
-said_fine Fine p = refl
-said_fine (Refused r) p = absurd p
+said_ok : (w : Result Unit Refusal) → Passed w → means w ≡ value tt
+said_ok (Ok tt) p = refl
+said_ok (Err r) p = absurd p
 
 -- A section, read as a count and then a body.
-module _ (n : ℕ) {v : Verdict} (c : List ℕ) (counted-as : verdict_means v ≡ count_tests n c) where
+module _ (n : ℕ) {v : Result Unit Refusal} (c : List ℕ) (counted-as : means v ≡ count_tests n c) where
   -- its count is refused, and nothing more is read
-  pub read_count : {P : List ℕ → Type 0} {r : Refusal} → v ≡ Refused r → SectionRead n P (Refused r)
+  pub read_count : {P : List ℕ → Type 0} {r : Refusal} → v ≡ Err r → SectionRead n P (Err r)
   read_count e = record {
     bytes = c;
     ended = ltb (length c) 4;
-    said = λ more f. sym (section_stopped n c more f (sym counted-as ∙ ap verdict_means e));
+    said = λ more f. sym (section_stopped n c more f (sym counted-as ∙ ap means e));
     long = λ p. absurd p;
     holds = λ p. absurd p;
   }
 
   -- its count passes: then the body is read, as far as there is any
-  pub read_body : (body : List ℕ) (got : ℕ) {w : Verdict} → v ≡ Fine → length c ≤ 4 → length body ≡ n → got ≤ n →
-      verdict_means w ≡ body_tests n got → SectionRead n (λ l. l ≡ body) w
+  pub read_body : (body : List ℕ) (got : ℕ) {w : Result Unit Refusal} → v ≡ Ok tt → length c ≤ 4 → length body ≡ n → got ≤ n →
+      means w ≡ body_tests n got → SectionRead n (λ l. l ≡ body) w
   unfolding count_tests body_tests
   read_body body got {w} e short long most said = record {
     bytes = c ++ take got body;
@@ -125,7 +124,7 @@ module _ (n : ℕ) {v : Verdict} (c : List ℕ) (counted-as : verdict_means v �
   }
     where
       passes : count_tests n c ≡ value tt
-      passes = sym counted-as ∙ ap verdict_means e
+      passes = sym counted-as ∙ ap means e
 
       four : length c ≡ 4
       four =
@@ -148,11 +147,11 @@ module _ (n : ℕ) {v : Verdict} (c : List ℕ) (counted-as : verdict_means v �
 
       whole : Passed w → take got body ≡ body
       whole p =
-          let enough = leb-true n got (held (leb n got) 9 (value tt) (sym said ∙ said_fine w p)) in
+          let enough = leb-true n got (held (leb n got) 9 (value tt) (sym said ∙ said_ok w p)) in
           take_all got body (omega arith)
 
 -- Nothing follows the last section, or a byte more was read.
-pub read_end : (l : List ℕ) {v : Verdict} → verdict_means v ≡ end_tests (length l) → ReadAs end_on (λ rest. Unit) v
+pub read_end : (l : List ℕ) {v : Result Unit Refusal} → means v ≡ end_tests (length l) → ReadAs end_on (λ rest. Unit) v
 unfolding end_tests
 read_end l said = record {
   bytes = l;
@@ -172,19 +171,19 @@ read_end l said = record {
         e ∙ sym (ne_eqb (length (l ++ more)) 0 (λ z. some (omega (arith, length-append l more))))
 
 -- Sections after one another.
-module _ {n : ℕ} {P : List ℕ → Type 0} {v : Verdict} (s : SectionRead n P v) (T : List ℕ → Answer Unit) where
+module _ {n : ℕ} {P : List ℕ → Type 0} {v : Result Unit Refusal} (s : SectionRead n P v) (T : List ℕ → Answer Unit) where
   -- the first is refused, and nothing more is read
-  pub read_stopped : {Q : List ℕ → Type 0} {r : Refusal} → v ≡ Refused r → ReadAs (section_then n T) Q (Refused r)
+  pub read_stopped : {Q : List ℕ → Type 0} {r : Refusal} → v ≡ Err r → ReadAs (section_then n T) Q (Err r)
   read_stopped e = record {
     bytes = s.bytes;
     ended = s.ended;
     said = λ more f.
-        sym (ap (λ (a : Answer Unit). a and_then T (drop (4 + n) (s.bytes ++ more))) (sym (s.said more f) ∙ ap verdict_means e));
+        sym (ap (λ (a : Answer Unit). a and_then T (drop (4 + n) (s.bytes ++ more))) (sym (s.said more f) ∙ ap means e));
     holds = λ more f p. absurd p;
   }
 
   -- the first passes, and the others are read
-  pub read_then : {Q : List ℕ → Type 0} {w : Verdict} → v ≡ Fine → ReadAs T Q w → ReadAs (section_then n T) (held_then n P Q) w
+  pub read_then : {Q : List ℕ → Type 0} {w : Result Unit Refusal} → v ≡ Ok tt → ReadAs T Q w → ReadAs (section_then n T) (held_then n P Q) w
   read_then {Q} e r =
       let b = s.bytes in
       let l = s.long (passed e) in
@@ -192,7 +191,7 @@ module _ {n : ℕ} {P : List ℕ → Type 0} {v : Verdict} (s : SectionRead n P 
       let body : (k : List ℕ) → take n (drop 4 (b ++ k)) ≡ drop 4 b =
       λ k. ap (take n) (drop-append-le 4 b k (omega arith)) ∙ take_at (drop 4 b) k n (length-drop 4 b ∙ omega arith) in
       let alone : first_section n b ≡ value tt =
-      ap (first_section n) (sym (append-nil b)) ∙ (sym (s.said [] (λ z. refl)) ∙ ap verdict_means e) in
+      ap (first_section n) (sym (append-nil b)) ∙ (sym (s.said [] (λ z. refl)) ∙ ap means e) in
       record {
         bytes = b ++ r.bytes;
         ended = r.ended;
@@ -206,26 +205,6 @@ module _ {n : ℕ} {P : List ℕ → Type 0} {v : Verdict} (s : SectionRead n P 
               subst Q (sym (rest (r.bytes ++ more))) (r.holds more f p),
             );
       }
-
--- What is made of a section's body.
-module _ {n : ℕ} {P Q : List ℕ → Type 0} {v : Verdict} (s : SectionRead n P v) where
-  pub read_as : v ≡ Fine → ((l : List ℕ) → P l → Q l) → SectionRead n Q Fine
-  read_as e f = record {
-    bytes = s.bytes;
-    ended = s.ended;
-    said = λ more g. sym (ap verdict_means e) ∙ s.said more g;
-    long = λ p. s.long (passed e);
-    holds = λ p. f (drop 4 s.bytes) (s.holds (passed e));
-  }
-
-  pub read_refused : {r : Refusal} → v ≡ Refused r → SectionRead n Q (Refused r)
-  read_refused e = record {
-    bytes = s.bytes;
-    ended = s.ended;
-    said = λ more g. sym (ap verdict_means e) ∙ s.said more g;
-    long = λ p. absurd p;
-    holds = λ p. absurd p;
-  }
 
 -- tests after one another, and then one more
 then_more : (a b c : Answer Unit) → (a and_then b) and_then c ≡ a and_then (b and_then c)
@@ -300,9 +279,9 @@ module _ (b : List ℕ) where
       ∙ ap (λ (a : Answer Unit). s2 and_then a)
       (then_more s3 (s4 and_then end) v ∙ ap (λ (a : Answer Unit). s3 and_then a) (then_more s4 end v))))
 
-module _ {registers oam cgram vram : List ℕ} {v : Verdict} (s : ReadAs registers_on (HeldRegisters registers oam cgram vram) v) where
+module _ {registers oam cgram vram : List ℕ} {v : Result Unit Refusal} (s : ReadAs registers_on (HeldRegisters registers oam cgram vram) v) where
   -- the sections are refused
-  pub read_no_scene : {r : Refusal} → v ≡ Refused r → SceneRead registers oam cgram vram (Refused r)
+  pub read_no_scene : {r : Refusal} → v ≡ Err r → SceneRead registers oam cgram vram (Err r)
   read_no_scene e = record {
     bytes = s.bytes;
     ended = s.ended;
@@ -310,12 +289,12 @@ module _ {registers oam cgram vram : List ℕ} {v : Verdict} (s : ReadAs registe
         let b = s.bytes ++ more in
         sym
         (sym (scene_tests_lem b)
-        ∙ ap (λ (a : Answer Unit). a and_then values_in (take 48 (drop 4 b))) (sym (s.said more f) ∙ ap verdict_means e));
+        ∙ ap (λ (a : Answer Unit). a and_then values_in (take 48 (drop 4 b))) (sym (s.said more f) ∙ ap means e));
     holds = λ more f p. absurd p;
   }
 
   -- the sections pass, and then the values are tested
-  pub read_scene : {w : Verdict} → v ≡ Fine → verdict_means w ≡ values_in registers → SceneRead registers oam cgram vram w
+  pub read_scene : {w : Result Unit Refusal} → v ≡ Ok tt → means w ≡ values_in registers → SceneRead registers oam cgram vram w
   read_scene e m = record {
     bytes = s.bytes;
     ended = s.ended;
@@ -325,7 +304,7 @@ module _ {registers oam cgram vram : List ℕ} {v : Verdict} (s : ReadAs registe
         ∙ (ap values_in (sym (s.holds more f (passed e)).0)
         ∙ sym
         (sym (scene_tests_lem b)
-        ∙ ap (λ (a : Answer Unit). a and_then values_in (take 48 (drop 4 b))) (sym (s.said more f) ∙ ap verdict_means e)));
+        ∙ ap (λ (a : Answer Unit). a and_then values_in (take 48 (drop 4 b))) (sym (s.said more f) ∙ ap means e)));
     holds = λ more f p.
         let b = s.bytes ++ more in
         let h = s.holds more f (passed e) in

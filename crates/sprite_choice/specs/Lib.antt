@@ -1,4 +1,3 @@
 pub mod Choice
-pub mod Answers
 pub mod theorems
 pub mod steps

@@ -4,8 +4,8 @@ ghost use Rattle.sprite_choice.specs.Choice.{search_start, blank_place, none_cho
 ghost use Rattle.sprite_choice.specs.steps.Choice.{placed_at};
 
 use crate::{Chosen, VisibleSprite};
-use oam::Sprite;
 use oam::inner::get_sprite;
+use oam::{OAM_SIZE, Sprite};
 use sprite_row::inner::{counting_tiles, in_range};
 
 // The places of the list.
@@ -28,16 +28,17 @@ fn search_start(oamadd: u16) -> u8
 fn blank() -> VisibleSprite
     ensures { result ≡ blank_place }
 {
-    let sprite = Sprite::blank();
-    VisibleSprite { index: 0, sprite }
+    VisibleSprite {
+        index: 0,
+        sprite: Sprite::blank(),
+    }
 }
 
 pub fn none_chosen() -> Chosen
     ensures { result ≡ none_chosen }
 {
-    let none = blank();
     Chosen {
-        sprites: [none; 32],
+        sprites: [blank(); 32],
         count: 0,
         tiles: 0,
         time_over: false,
@@ -46,23 +47,22 @@ pub fn none_chosen() -> Chosen
 }
 
 // The sprite at place k of the search, which wraps at 128.
-fn placed_at(oam: &[u8], objsel: u8, start: u8, k: u8) -> VisibleSprite
-    requires whole { length oam.now ≡ 544 }
-    requires in_range { (start < 128) × (k < 128) }
+fn placed_at(oam: &[u8; OAM_SIZE], objsel: u8, start: u8, k: u8) -> VisibleSprite
+    requires { (start < 128) × (k < 128) }
     ensures { result ≡ placed_at oam.now objsel start k }
 {
     let index = (start + k) % 128;
-    let sprite = get_sprite(oam, index, objsel);
-    VisibleSprite { index, sprite }
+    VisibleSprite {
+        index,
+        sprite: get_sprite(oam, index, objsel),
+    }
 }
 
-pub fn choose(oam: &[u8], row: u8, objsel: u8, oamadd: u16, obj_interlace: bool) -> Chosen
-    requires { length oam.now ≡ 544 }
+pub fn choose(oam: &[u8; OAM_SIZE], row: u8, objsel: u8, oamadd: u16, obj_interlace: bool) -> Chosen
     ensures { result ≡ chosen_of oam.now row objsel oamadd obj_interlace }
 {
     let start = search_start(oamadd);
-    let none = blank();
-    let mut sprites = [none; 32];
+    let mut sprites = [blank(); 32];
     let mut count: usize = 0;
     let mut tiles: usize = 0;
     for k in 0..128u8 {

@@ -4,15 +4,15 @@
 pub mod inner;
 
 ghost use Rattle.std.specs.Prelude.{◌≡◌};
-ghost use Rattle.sprite_choice.specs.Answers.{choice_means};
-ghost use Rattle.sprite_choice.specs.Choice.{choice_outcome};
+ghost use Rattle.base_refusal.specs.Results.{outcome_of};
+ghost use Rattle.sprite_choice.specs.Choice.{none_chosen, choice_outcome};
 
-use base_refusal::Verdict;
+use base_refusal::Refusal;
 use oam::Sprite;
 use row_tests::inner::choice_tested;
 
 // A sprite with its number in sprite memory.
-#[derive(Clone, Copy)]
+#[derive(Clone, Copy, Debug, PartialEq, Eq)]
 pub struct VisibleSprite {
     pub index: u8,
     pub sprite: Sprite,
@@ -20,20 +20,13 @@ pub struct VisibleSprite {
 
 // The chosen sprites in a list of 32 places with its length, and what is said of them: how many of
 // their tiles count, whether those exceed 34, and whether there was a 33rd sprite.
-#[derive(Clone, Copy)]
+#[derive(Clone, Copy, Debug, PartialEq, Eq)]
 pub struct Chosen {
     pub sprites: [VisibleSprite; 32],
     pub count: usize,
     pub tiles: usize,
     pub time_over: bool,
     pub range_over: bool,
-}
-
-// On a refusal nothing is chosen.
-#[derive(Clone, Copy)]
-pub struct ChoiceAnswer {
-    pub verdict: Verdict,
-    pub chosen: Chosen,
 }
 
 // The sprites chosen for row y: in search order, the first 32 of those that the row meets and that
@@ -44,23 +37,9 @@ pub fn eval_sprites_for_scanline(
     objsel: u8,
     oamadd: u16,
     obj_interlace: bool,
-) -> ChoiceAnswer
-    ensures { choice_means result ≡ choice_outcome oam.now y objsel oamadd obj_interlace }
+) -> Result<Chosen, Refusal>
+    ensures { outcome_of none_chosen result ≡ choice_outcome oam.now y objsel oamadd obj_interlace }
 {
-    match choice_tested(y, oam.len()) {
-        Verdict::Fine => {
-            let chosen = inner::choose(oam, y as u8, objsel, oamadd, obj_interlace);
-            ChoiceAnswer {
-                verdict: Verdict::Fine,
-                chosen,
-            }
-        }
-        Verdict::Refused(n) => {
-            let chosen = inner::none_chosen();
-            ChoiceAnswer {
-                verdict: Verdict::Refused(n),
-                chosen,
-            }
-        }
-    }
+    let oam = choice_tested(y, oam)?;
+    Ok(inner::choose(oam, y as u8, objsel, oamadd, obj_interlace))
 }

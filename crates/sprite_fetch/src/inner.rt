@@ -35,14 +35,10 @@ pub fn fetch(chosen: Chosen, view: View) -> Fetched
     requires { (chosen.count ≤ 32) × AllFair chosen.count chosen.sprites }
     ensures { (result ≡ fetched_list view (fetched 34 view.objsel (sprites_of chosen.count chosen.sprites))) × ((result.count ≤ 34) × AllSound result.count result.rows) }
 {
-    let none = blank();
-    let mut rows = [none; 34];
+    let mut rows = [blank(); 34];
     let mut count: usize = 0;
-    let mut k = chosen.count;
-    while 0 < k {
-        k -= 1;
-        let p = chosen.sprites[k];
-        let s = p.sprite;
+    for k in (0..chosen.count).rev() {
+        let s = chosen.sprites[k].sprite;
         let size = sprite_size(view.objsel, s.large);
         let line = line_in(s, size, view);
         let x9 = nine_bits(s.x);
@@ -63,16 +59,14 @@ pub fn fetch(chosen: Chosen, view: View) -> Fetched
 
 // The sprite line: the tiles are drawn one over the other in the order of the fetch, so that the
 // first chosen sprite stays.
-pub fn draw(f: Fetched, vram: &[u16], cgram: &[u16]) -> [Candidate; 256]
-    requires { (length cgram.now ≡ 256) × ((f.count ≤ 34) × AllSound f.count f.rows) }
+pub fn draw(f: Fetched, vram: &[u16], cgram: &[u16; 256]) -> [Candidate; 256]
+    requires { (f.count ≤ 34) × AllSound f.count f.rows }
     ensures { result ≡ drawn_line vram.now cgram.now (take f.count f.rows) }
 {
-    let none = Candidate::none();
-    let mut line = [none; 256];
+    let mut line = [Candidate::none(); 256];
     for i in 0..f.count {
         let s = f.rows[i];
         let tile = s.tile;
-        let z = tile.z;
         let colors = palette(cgram, tile.palette);
         for k in 0..8 {
             let x = (s.tile_x as usize + k) % 512;
@@ -83,7 +77,7 @@ pub fn draw(f: Fetched, vram: &[u16], cgram: &[u16]) -> [Candidate; 256]
             if n == 0 {
                 continue;
             }
-            line[x] = pixel(colors, tile.palette, z, n);
+            line[x] = pixel(colors, tile.palette, tile.z, n);
         }
     }
     line

@@ -7,7 +7,7 @@ pub mod inner;
 use sprite_tile::PlacedRow;
 
 // The fetched tiles, in the order of the fetch: a list of 34 places with its length.
-#[derive(Clone, Copy)]
+#[derive(Clone, Copy, Debug, PartialEq, Eq)]
 pub struct Fetched {
     pub rows: [PlacedRow; 34],
     pub count: usize,

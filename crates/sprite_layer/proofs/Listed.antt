@@ -1,7 +1,6 @@
 -- The sprites that `choose` lists are the definition's, and each has a palette of its eight.
 use Prim.Native.Nat.{ℕ, zero, suc, ◌<◌, ◌≤◌}
-use mathlib.Core.Path.{◌≡◌, refl, sym, ap, ◌∙◌}
-use mathlib.Core.Bool.{Bool, true, false, not, ◌&&◌, false≢true}
+use mathlib.Core.Path.{◌≡◌, sym, ap, ◌∙◌}
 use mathlib.Core.List.{List, [], ◌∷◌, map, map-map}
 use native.Mathlib.Omega.{arith}
 use lib.ListN.{length, get_or, take, length-map, length-take}
@@ -61,9 +60,3 @@ module _ (oam : List ℕ) (row : ℕ) (r : PPURegisters) {c : Chosen}
   pub chosen_listed : sprites_of c.count c.sprites ≡ chosen_sprites oam r row
   unfolding chosen_sprites
   chosen_listed = (λ i. sprites_of (is i).count (is i).sprites) ∙ listed oam r.objsel hits
-
--- lit on neither screen
-pub neither : (a b : Bool) → not a && not b ≡ true → (a ≡ false) × (b ≡ false)
-neither true b e = absurd (false≢true e)
-neither false true e = absurd (false≢true e)
-neither false false e = (refl, refl)

@@ -1,4 +1,3 @@
 pub mod Sprites
-pub mod Answers
 pub mod Edges
 pub mod theorems

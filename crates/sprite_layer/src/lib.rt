@@ -5,23 +5,15 @@
 pub mod inner;
 
 ghost use Rattle.std.specs.Prelude.{◌≡◌};
-ghost use Rattle.line_laying.specs.Answers.{candidates_mean, lines_mean};
-ghost use Rattle.sprite_layer.specs.Sprites.{sprite_line_outcome, sprite_candidates_answer, sprites_laid_outcome};
-ghost use Rattle.sprite_layer.specs.Answers.{sprite_line_means};
+ghost use Rattle.base_refusal.specs.Results.{means, outcome_of};
+ghost use Rattle.sprite_layer.specs.Sprites.{empty_line, sprite_line_outcome, sprite_candidates_answer, sprites_laid_outcome};
 
-use base_refusal::Verdict;
-use line_laying::{CandidatesAnswer, LinesAnswer};
+use base_refusal::Refusal;
+use line_laying::Candidates;
 use line_pixels::{Candidate, Lines};
 use registers::PPURegisters;
 use registers::constants::SCREEN_WIDTH;
 use row_tests::inner::layer_tested;
-
-// The verdict on a call, and the sprite line: on a refusal a line with no pixel.
-#[derive(Clone, Copy)]
-pub struct SpriteLineAnswer {
-    pub verdict: Verdict,
-    pub line: [Candidate; 256],
-}
 
 // The sprite line of row y: at each column the pixel of the first chosen sprite that has a fetched
 // opaque pixel there, before windows and screens.
@@ -31,32 +23,11 @@ pub fn sprite_line(
     oam: &[u8],
     r: PPURegisters,
     y: usize,
-) -> SpriteLineAnswer
-    ensures { sprite_line_means result ≡ sprite_line_outcome vram.now cgram.now oam.now r y }
+) -> Result<[Candidate; 256], Refusal>
+    ensures { outcome_of empty_line result ≡ sprite_line_outcome vram.now cgram.now oam.now r y }
 {
-    match layer_tested(
-        y,
-        vram.len(),
-        cgram.len(),
-        oam.len(),
-        r.mosaic_vcounter,
-        true,
-    ) {
-        Verdict::Fine => {
-            let line = inner::line(vram, cgram, oam, r, y);
-            SpriteLineAnswer {
-                verdict: Verdict::Fine,
-                line,
-            }
-        }
-        Verdict::Refused(n) => {
-            let line = inner::empty();
-            SpriteLineAnswer {
-                verdict: Verdict::Refused(n),
-                line,
-            }
-        }
-    }
+    let memory = layer_tested(y, vram, cgram, oam, r.mosaic_vcounter, true)?;
+    Ok(inner::line(memory, r, y))
 }
 
 // The candidates of the sprites at column x of row y, on both screens.
@@ -67,52 +38,26 @@ pub fn sprite_candidates(
     r: PPURegisters,
     x: usize,
     y: usize,
-) -> CandidatesAnswer
-    ensures { candidates_mean result ≡ sprite_candidates_answer vram.now cgram.now oam.now r y x }
+) -> Result<Candidates, Refusal>
+    ensures { means result ≡ sprite_candidates_answer vram.now cgram.now oam.now r y x }
 {
     let column = x < SCREEN_WIDTH;
-    match layer_tested(
-        y,
-        vram.len(),
-        cgram.len(),
-        oam.len(),
-        r.mosaic_vcounter,
-        column,
-    ) {
-        Verdict::Fine => CandidatesAnswer::Is(inner::candidates(vram, cgram, oam, r, x, y)),
-        Verdict::Refused(n) => CandidatesAnswer::Refused(n),
-    }
+    let memory = layer_tested(y, vram, cgram, oam, r.mosaic_vcounter, column)?;
+    Ok(inner::candidates(memory, r, x, y))
 }
 
-// Both lines after the sprites of row y are laid over them.
+// Lays the sprites of row y over both lines. On a refusal they are what they were.
 pub fn render_sprites(
-    lines: Lines,
+    lines: &mut Lines,
     vram: &[u16],
     cgram: &[u16],
     oam: &[u8],
     r: PPURegisters,
     y: usize,
-) -> LinesAnswer
-    ensures { lines_mean result ≡ sprites_laid_outcome vram.now cgram.now oam.now r y lines }
+) -> Result<(), Refusal>
+    ensures { record { said = means result; left = lines.new } ≡ sprites_laid_outcome vram.now cgram.now oam.now r y lines.old }
 {
-    match layer_tested(
-        y,
-        vram.len(),
-        cgram.len(),
-        oam.len(),
-        r.mosaic_vcounter,
-        true,
-    ) {
-        Verdict::Fine => {
-            let laid = inner::lay(lines, vram, cgram, oam, r, y);
-            LinesAnswer {
-                verdict: Verdict::Fine,
-                lines: laid,
-            }
-        }
-        Verdict::Refused(n) => LinesAnswer {
-            verdict: Verdict::Refused(n),
-            lines,
-        },
-    }
+    let memory = layer_tested(y, vram, cgram, oam, r.mosaic_vcounter, true)?;
+    inner::lay(lines, memory, r, y);
+    Ok(())
 }

@@ -9,7 +9,7 @@ use oam::{Sprite, SpriteSize};
 pub fn sprite_line(row: u8, top: u8) -> u8
     ensures { result ≡ line_of row top }
 {
-    std::num::wrapping_sub_u8(row, top)
+    row.wrapping_sub(top)
 }
 
 // The lines that a sprite covers.

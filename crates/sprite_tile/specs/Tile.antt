@@ -40,7 +40,7 @@ abbrev pub sprite_index_at : List ℕ → Sprite → ℕ → ℕ → ℕ
 sprite_index_at v s column line = index_of v (tile_word s (column / 8) (line / 8)) (column % 8) (line % 8) 2
 
 -- a palette's colours are a part of colour memory, 16 words from 128 + 16 x palette
-abbrev pub sprite_colours : List ℕ → ℕ → List ℕ
+abbrev pub sprite_colours : {A : Type 0} → List A → ℕ → List A
 sprite_colours g n = take 16 (drop (128 + 16 * n) g)
 
 -- a sprite's pixel of index i, and whether it is opaque: index 0 is transparent, and palettes 4 and above have the math mark

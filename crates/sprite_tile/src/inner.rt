@@ -72,30 +72,27 @@ pub fn placed(s: Sprite, size: SpriteSize, line: usize, t: usize) -> PlacedRow
     ensures { (result ≡ placed_of s size.width line t) × PlacedSound result }
 {
     let column = mirror(t, size.width as usize / 8, s.flip_x);
-    let base = tile_word(s, column, line / 8);
-    let x9 = nine_bits(s.x);
-    let z = Priority::obj(s.priority);
     let tile = TileRow {
-        base,
+        base: tile_word(s, column, line / 8),
         row: (line % 8) as u8,
         flip_x: s.flip_x,
         palette: s.palette,
-        z,
+        z: Priority::obj(s.priority),
     };
     PlacedRow {
-        tile_x: (x9 + t as u16 * 8) % 512,
+        tile_x: (nine_bits(s.x) + t as u16 * 8) % 512,
         tile,
     }
 }
 
-// A palette's colours, a part of colour memory.
-pub fn palette<'a>(cgram: &'a [u16], n: u8) -> &'a [u16]
-    requires { (length cgram.now ≡ 256) × (n < 8) }
+// A palette's colours, a part of colour memory, whatever its words are.
+pub fn palette<'a, T>(cgram: &'a [T; 256], n: u8) -> &'a [T]
+    requires { n < 8 }
     ensures { result.now ≡ sprite_colours cgram.now n }
 {
     let start = OBJ_COLORS + PALETTE_COLORS * n as usize;
-    let end = start + PALETTE_COLORS;
-    &cgram[start..end]
+    let words = &cgram[..];
+    &words[start..start + PALETTE_COLORS]
 }
 
 // The pixel of a colour index, of a sprite with this palette, its colours and this priority. Sprites
@@ -104,10 +101,8 @@ pub fn pixel(colors: &[u16], palette: u8, z: Priority, index: u8) -> Candidate
     requires { (length colors.now ≡ 16) × (index < 16) }
     ensures { result ≡ sprite_pixel_of colors.now palette z index }
 {
-    let at = index as usize;
-    let color = colors[at];
     let pixel = LinePixel {
-        color,
+        color: colors[index as usize],
         z,
         layer: Layer::Obj,
         obj_math: palette >= 4,

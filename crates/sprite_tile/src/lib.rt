@@ -8,7 +8,7 @@ use tiles_row::TileRow;
 
 // How a row's sprites are seen: objsel, the row, sprite interlace, and whether the field is odd.
 // The row is a byte here: the calls above have refused a row above 223.
-#[derive(Clone, Copy)]
+#[derive(Clone, Copy, Debug, PartialEq, Eq)]
 pub struct View {
     pub objsel: u8,
     pub row: u8,
@@ -17,7 +17,7 @@ pub struct View {
 }
 
 // A row of a sprite's tile, and where it stands: the nine bits of its left edge.
-#[derive(Clone, Copy)]
+#[derive(Clone, Copy, Debug, PartialEq, Eq)]
 pub struct PlacedRow {
     pub tile_x: u16,
     pub tile: TileRow,

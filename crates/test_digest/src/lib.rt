@@ -33,7 +33,7 @@ pub fn fold(digest: u32, v: u64) -> u32
 pub fn one(b: bool) -> u64
     ensures { (result ≡ one_of b) × (result < 2) }
 {
-    if b { 1 } else { 0 }
+    u64::from(b)
 }
 
 // Twelve digits: the 16 bits of the column, top, tile, base.

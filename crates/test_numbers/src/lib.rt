@@ -19,20 +19,12 @@ pub fn word(x: u32) -> u16
     (x / 65536) as u16
 }
 
-// Four bytes as a number, the lowest first.
-fn number(a: u8, b: u8, c: u8, d: u8) -> u32
-    ensures { result ≡ a + b * 256 + c * 65536 + d * 16777216 }
-{
-    a as u32 + b as u32 * 256 + c as u32 * 65536 + d as u32 * 16777216
-}
-
 // The seed that a program was given: four bytes, the lowest first. Without them it is the program's own.
 pub fn seed(bytes: &[u8], own: u32) -> u32
     ensures { result ≡ seed_of bytes.now own }
 {
-    if bytes.len() == 4 {
-        number(bytes[0], bytes[1], bytes[2], bytes[3])
-    } else {
-        own
+    match <[u8; 4]>::try_from(bytes) {
+        Ok(four) => u32::from_le_bytes(four),
+        Err(_) => own,
     }
 }

@@ -1,8 +1,8 @@
 -- What the two screens hold of a column.
-use Rattle.std.specs.Prelude.{ℕ, Bool, ◌&&◌, eqb, leb}
+use Rattle.std.specs.Prelude.{ℕ, Bool, ◌&&◌, eqb, leb, Result, Ok, Err}
+use Rattle.base_refusal.specs.declared.Refusal.{Refusal}
 use Rattle.test_digest.specs.Digest.{one_of}
-use Rattle.line_laying.specs.declared.CandidatesAnswer.{CandidatesAnswer}
-use Rattle.line_laying.specs.declared.CandidatesAnswer.TheVariants.{Is, Refused}
+use Rattle.line_laying.specs.declared.Candidates.{Candidates}
 use Rattle.line_pixels.specs.Pixels.{background_of, backdrop_of, deposited}
 use Rattle.line_pixels.specs.declared.LinePixel.{LinePixel}
 use Rattle.test_replay.specs.declared.pixels.Pixels.{Pixels}
@@ -11,9 +11,9 @@ abbrev pub bare_of : ℕ → ℕ → Pixels
 bare_of main sub = record { main = backdrop_of main; sub = backdrop_of sub }
 
 -- on a refusal what was held
-abbrev pub laid_of : Pixels → CandidatesAnswer → Pixels
-laid_of held (Is c) = record { main = deposited held.main c.main; sub = deposited held.sub c.sub }
-laid_of held (Refused n) = held
+abbrev pub laid_of : Pixels → Result Candidates Refusal → Pixels
+laid_of held (Ok c) = record { main = deposited held.main c.main; sub = deposited held.sub c.sub }
+laid_of held (Err n) = held
 
 -- priority, background, colour and math mark
 abbrev pub same_of : LinePixel → LinePixel → Bool

@@ -2,7 +2,6 @@
 ghost use Rattle.std.specs.Prelude.{◌≡◌, ◌/◌, ◌%◌};
 ghost use Rattle.test_replay.specs.Drawing.{after_of, drawn_word, ends_of, drawn_words, drawn_four};
 
-use line_pixels::inner::pick_color as pick;
 use test_numbers::{next, word};
 
 pub fn low(word: u16) -> u8
@@ -36,14 +35,14 @@ pub fn nth(n: u32, seed: u32) -> u16
 }
 
 // Of the numbers up to `last` the first, the last and, from k = 2 on, any.
-pub fn ends(k: u32, last: u8, drawn: u16) -> u16
+pub fn ends(k: u32, last: u8, drawn: u16) -> u8
     ensures { result ≡ ends_of k last drawn }
 {
-    pick(
-        k == 0,
-        0,
-        pick(k == 1, last as u16, drawn % (last as u16 + 1)),
-    )
+    match k {
+        0 => 0,
+        1 => last,
+        _ => (drawn % (u16::from(last) + 1)) as u8,
+    }
 }
 
 // The next 256 numbers: a colour memory, or enough for the registers.
@@ -69,6 +68,7 @@ pub struct Four {
     pub x: u32,
 }
 
+#[tactic(auto, unfolding(crate::specs::Drawing::after_of))]
 pub fn drawn(seed: u32) -> Four
     ensures { result ≡ drawn_four seed }
 {

@@ -11,11 +11,9 @@ pub mod placing;
 pub mod section;
 
 ghost use Rattle.std.specs.Prelude.{◌≡◌};
-ghost use Rattle.base_refusal.specs.Verdicts.{verdict_means};
-ghost use Rattle.test_digest.specs.Digest.{folded};
 ghost use Rattle.test_replay.specs.Replay.{Seeded, digest_of};
 
-use base_refusal::Verdict;
+use base_refusal::Refusal;
 use test_digest::fold;
 
 // A list's seed: four bytes of the standard input, or the list's own.
@@ -27,14 +25,14 @@ pub fn seed(own: u32) -> u32
     test_numbers::seed(&bytes[..n], own)
 }
 
-// A refusal writes a line that no list has.
-pub fn settle(verdict: Verdict) -> Verdict
-    ensures { verdict_means result ≡ verdict_means verdict }
+// What is answered. A refusal writes a line that no list has.
+pub fn settle<T: Copy>(answer: Result<T, Refusal>) -> Result<T, Refusal>
+    ensures { result ≡ answer }
 {
-    match verdict {
-        Verdict::Fine => Verdict::Fine,
-        Verdict::Refused(n) => base_refusal_line::refuse(n),
+    if let Err(n) = answer {
+        let _ = base_refusal_line::refuse(n);
     }
+    answer
 }
 
 // Where two answers are not the same, a word that no list has is written.
@@ -57,20 +55,9 @@ pub fn hex(v: u64, digits: usize, end: u8) -> u64
     v
 }
 
-// A digest with one byte more.
-fn with_byte(digest: u32, byte: u8) -> u32
-    ensures { result ≡ folded digest byte }
-{
-    fold(digest, byte as u64)
-}
-
 // A digest of bytes.
 pub fn bytes(given: &[u8]) -> u32
     ensures { result ≡ digest_of 0 given.now }
 {
-    let mut d: u32 = 0;
-    for i in 0..given.len() {
-        d = with_byte(d, given[i]);
-    }
-    d
+    given.iter().fold(0, |d, b| fold(d, u64::from(*b)))
 }

@@ -3,7 +3,6 @@ ghost use Rattle.std.specs.Prelude.{◌≡◌, cond};
 ghost use Rattle.std.specs.Int.Bits.{bit_and};
 ghost use Rattle.test_replay.specs.Memory.{runs_of, picture_of, sprite_tiles_of, held_of, vram_of};
 
-use line_pixels::inner::pick_color as pick;
 use test_numbers::{next, word};
 
 // What VRAM is filled with: any words; runs; a picture of few tiles; the tiles of sprites.
@@ -19,7 +18,13 @@ pub enum Filling {
 fn sparse(none: bool, few: bool, a: u16, b: u16) -> u16
     ensures { result ≡ cond none 0 (cond few (bit_and a b) a) }
 {
-    pick(none, 0, pick(few, a & b, a))
+    if none {
+        0
+    } else if few {
+        a & b
+    } else {
+        a
+    }
 }
 
 // In runs of 16 words.
@@ -36,10 +41,16 @@ fn picture(i: usize, a: u16, b: u16) -> u16
     ensures { result ≡ picture_of i a b }
 {
     let k = i / 32 % 4;
-    let entry = pick(b % 4 == 0, a / 1024 * 1024 + a % 64, 0);
-    let flat = pick(b % 2 == 0, 0xff00, 0x00ff);
-    let tile = sparse((k == 0) | (i % 4096 < 32), k == 1, pick(k == 2, flat, a), b);
-    pick(i < 8192, entry, tile)
+    if i < 8192 {
+        return if b % 4 == 0 {
+            a / 1024 * 1024 + a % 64
+        } else {
+            0
+        };
+    }
+    let flat = if b % 2 == 0 { 0xff00 } else { 0x00ff };
+    let many = if k == 2 { flat } else { a };
+    sparse((k == 0) | (i % 4096 < 32), k == 1, many, b)
 }
 
 // The first words are a row of a map with low entries, one with high entries and their tile: the oracle
@@ -48,12 +59,12 @@ fn sprites(i: usize, a: u16, b: u16) -> u16
     ensures { result ≡ sprite_tiles_of i a b }
 {
     let k = i / 16 % 4;
-    let tile = sparse((k == 0) | ((k == 2) & (b % 4 == 0)), k == 1, a, b);
-    pick(
-        i < 32,
-        0x0008,
-        pick(i < 64, 0x2008, pick(i < 72, 0xffff, tile)),
-    )
+    match i {
+        0..32 => 0x0008,
+        32..64 => 0x2008,
+        64..72 => 0xffff,
+        _ => sparse((k == 0) | ((k == 2) & (b % 4 == 0)), k == 1, a, b),
+    }
 }
 
 // What VRAM holds at i, of two numbers.

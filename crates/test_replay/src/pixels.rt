@@ -3,10 +3,10 @@ ghost use Rattle.std.specs.Prelude.{◌≡◌, ◌&&◌};
 ghost use Rattle.test_replay.specs.Pixels.{bare_of, laid_of, same_of};
 
 use crate::{agree, settle};
-use line_laying::{CandidatesAnswer, LinesAnswer};
+use base_refusal::Refusal;
+use line_laying::Candidates;
 use line_pixels::inner::bg_index;
-use line_pixels::{LinePixel, Lines, deposit};
-use test_digest::one;
+use line_pixels::{LinePixel, deposit};
 
 // A column of the main screen and of the sub screen.
 #[derive(Clone, Copy)]
@@ -19,32 +19,22 @@ pub struct Pixels {
 pub fn bare(main: u16, sub: u16) -> Pixels
     ensures { result ≡ bare_of main sub }
 {
-    let over = LinePixel::backdrop(main);
-    let under = LinePixel::backdrop(sub);
     Pixels {
-        main: over,
-        sub: under,
+        main: LinePixel::backdrop(main),
+        sub: LinePixel::backdrop(sub),
     }
 }
 
 // The column after a layer's candidates came. A refusal writes a line that no list has.
-pub fn laid(held: Pixels, answer: CandidatesAnswer) -> Pixels
+pub fn laid(held: Pixels, answer: Result<Candidates, Refusal>) -> Pixels
     ensures { result ≡ laid_of held answer }
 {
-    match answer {
-        CandidatesAnswer::Is(c) => {
-            let over = c.main;
-            let under = c.sub;
-            let first = held.main;
-            let second = held.sub;
-            let main = deposit(first, over);
-            let sub = deposit(second, under);
-            Pixels { main, sub }
-        }
-        CandidatesAnswer::Refused(n) => {
-            base_refusal_line::refuse(n);
-            held
-        }
+    match settle(answer) {
+        Ok(c) => Pixels {
+            main: deposit(held.main, c.main),
+            sub: deposit(held.sub, c.sub),
+        },
+        Err(_) => held,
     }
 }
 
@@ -52,29 +42,15 @@ pub fn laid(held: Pixels, answer: CandidatesAnswer) -> Pixels
 pub fn same(a: LinePixel, b: LinePixel) -> bool
     ensures { result ≡ same_of a b }
 {
-    let near = a.z;
-    let far = b.z;
-    let first = a.layer;
-    let second = b.layer;
-    let places = near.covers(far) & far.covers(near) & (bg_index(first) == bg_index(second));
-    places & (a.color == b.color) & (one(a.obj_math) == one(b.obj_math))
+    (a.z == b.z)
+        & (bg_index(a.layer) == bg_index(b.layer))
+        & (a.color == b.color)
+        & (a.obj_math == b.obj_math)
 }
 
 // Is this what the lines hold? If not, a word that no list has is written.
 pub fn compare(held: Pixels, main: LinePixel, sub: LinePixel) -> bool
     ensures { result ≡ (same_of held.main main && same_of held.sub sub) }
 {
-    let first = held.main;
-    let second = held.sub;
-    agree(same(first, main) & same(second, sub))
-}
-
-// The lines that a call leaves. A refusal writes a line that no list has.
-pub fn lines(answer: LinesAnswer) -> Lines
-    ensures { result ≡ answer.lines }
-{
-    let verdict = answer.verdict;
-    settle(verdict);
-    let after = answer.lines;
-    after
+    agree(same(held.main, main) & same(held.sub, sub))
 }

@@ -3,8 +3,7 @@ ghost use Rattle.std.specs.Prelude.{◌≡◌, ◌%◌};
 ghost use Rattle.test_replay.specs.Placing.{beside_of, column_of, with_of};
 
 use crate::drawing::{high, low};
-use line_pixels::inner::pick_color as pick;
-use test_digest::{one, second_table_byte};
+use test_digest::second_table_byte;
 
 // Where a sprite stands: at any column; at a column at which a rule changes for some width, or beside
 // it; at one of the first four of these; in a pile at the left; across the picture; left of it.
@@ -18,15 +17,18 @@ pub enum Place {
     Hidden,
 }
 
-// The columns at which the rules change for some width. The last stands for any column.
-const EDGES: [u16; 8] = [0, 256, 504, 240, 448, 480, 496, 0];
+// The columns at which the rules change for some width.
+const EDGES: [u16; 7] = [0, 256, 504, 240, 448, 480, 496];
 
-// The column at edge k or one beside it.
+// The column at edge k or one beside it; 7 stands for any column.
 fn beside(k: u16, a: u16, b: u16) -> u16
     ensures { result ≡ beside_of k a b }
 {
-    let at = (k % 8) as usize;
-    (pick(at == 7, b, EDGES[at]) % 512 + 511 + a / 8 % 3) % 512
+    let edge = match k % 8 {
+        7 => b % 512,
+        at => EDGES[at as usize],
+    };
+    (edge + 511 + a / 8 % 3) % 512
 }
 
 // A sprite's column, of two numbers.
@@ -43,17 +45,16 @@ pub fn column(place: Place, a: u16, b: u16) -> u16
     }
 }
 
-// Sprite memory with one sprite more: its column and top; tile and attributes from d; its size.
-pub fn with(sprites: [u8; 544], sprite: usize, x9: u16, top: u16, d: u16, large: bool) -> [u8; 544]
-    ensures { result ≡ with_of sprites (sprite % 128) x9 top d large }
+// Writes a sprite to sprite memory: its column and top; tile and attributes from d; its size.
+#[tactic(auto, unfolding(crate::specs::Placing::with_of))]
+pub fn write(oam: &mut [u8; 544], sprite: usize, x9: u16, top: u16, d: u16, large: bool)
+    ensures { oam.new ≡ with_of oam.old (sprite % 128) x9 top d large }
 {
     let i = sprite % 128;
-    let bits = (x9 / 256 % 2) as u8 + (one(large) * 2) as u8;
-    let mut oam = sprites;
+    let bits = (x9 / 256 % 2) as u8 + u8::from(large) * 2;
     oam[512 + i / 4] = second_table_byte(oam[512 + i / 4], i, bits);
     oam[i * 4] = low(x9);
     oam[i * 4 + 1] = low(top);
     oam[i * 4 + 2] = low(d);
     oam[i * 4 + 3] = high(d);
-    oam
 }

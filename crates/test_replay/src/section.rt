@@ -3,33 +3,33 @@ ghost use Rattle.std.specs.Prelude.{◌≡◌};
 ghost use Rattle.scene_bytes.specs.Bytes.{registers_of};
 ghost use Rattle.test_replay.specs.Section.{drawn_byte, drawn_section};
 
-use crate::drawing::nth;
-use line_pixels::inner::pick_color as pick;
+use crate::drawing::{high, low, nth};
 use registers::PPURegisters;
 
 // Byte k of the numbers drawn, counted from 1, the low byte of each number first. Byte 0 is 0.
 fn byte(k: u8, seed: u32) -> u8
     ensures { result ≡ drawn_byte k seed }
 {
-    let w = nth((k as u32 + 1) / 2, seed);
-    (pick(k == 0, 0, pick(k % 2 == 1, w, w / 256)) % 256) as u8
+    let word = nth((u32::from(k) + 1) / 2, seed);
+    if k == 0 {
+        0
+    } else if k % 2 == 1 {
+        low(word)
+    } else {
+        high(word)
+    }
 }
 
 // A section of which `order` says, byte by byte, which of the bytes drawn it has.
 fn section(order: [u8; 48], seed: u32) -> [u8; 48]
     ensures { result ≡ drawn_section order seed }
 {
-    let mut bytes = [0u8; 48];
-    for k in 0..48usize {
-        bytes[k] = byte(order[k], seed);
-    }
-    bytes
+    std::array::from_fn(|k| byte(order[k], seed))
 }
 
 // The registers that are drawn in this order.
 pub fn registers(order: [u8; 48], seed: u32) -> PPURegisters
     ensures { result ≡ registers_of (drawn_section order seed) }
 {
-    let bytes = section(order, seed);
-    scene_bytes::inner::registers(&bytes)
+    scene_bytes::inner::registers(&section(order, seed))
 }

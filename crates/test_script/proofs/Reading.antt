@@ -8,21 +8,20 @@ use native.Mathlib.Nat.{add-zero, le-mul_of_pos_right}
 use native.Mathlib.Numerals.{add-one}
 use lib.Dec.{ltb, eqb}
 use lib.ListN.{length, get_or, take, length-take, length-drop, drop_of_length-le, get_or-eq_default}
+use Rattle.std.specs.Prelude.{Option, Some, None}
 use lib.Seq.{slice, slice_empty, slice-cons, drop-drop, get_or-drop, get_or-take}
 use borrow.Author.Tests.{ltb-true, ltb-false, lt-ltb, le-ltb, le-leb}
 use Rattle.test_script.specs.Number.{digit_of, are_digits, behind, number_where, digits_of, is_hex, word_number, number_between}
 use Rattle.test_script.specs.steps.Number.{more_of}
-use Rattle.test_script.specs.declared.NumberAnswer.{NumberAnswer}
-use Rattle.test_script.specs.declared.NumberAnswer.TheVariants.{Is, Not}
 
 -- what the digits l say behind the number n
-unfoldable pub read_on : ℕ → List ℕ → ℕ → NumberAnswer
+unfoldable pub read_on : ℕ → List ℕ → ℕ → Option ℕ
 read_on base l n = number_where (are_digits base l) (behind base n l)
 
 -- and behind what was read before them
-abbrev pub onward : ℕ → List ℕ → NumberAnswer → NumberAnswer
-onward base l (Is n) = read_on base l n
-onward base l Not = Not
+abbrev pub onward : ℕ → List ℕ → Option ℕ → Option ℕ
+onward base l (Some n) = read_on base l n
+onward base l None = None
 
 -- digits only make a number larger
 grows : (base : ℕ) (l : List ℕ) (n : ℕ) → 0 < base → n ≤ behind base n l
@@ -35,7 +34,7 @@ grows base (b ∷ l) n h =
 module _ (base b : ℕ) (l : List ℕ) (n : ℕ) where
   by_tests : (t u : Bool) → ltb (digit_of b) base ≡ t → ltb (n * base + digit_of b) (2 ^ 64) ≡ u →
       number_where (t && are_digits base l) (behind base (n * base + digit_of b) l)
-      ≡ onward base l (cond (t && u) (Is (n * base + digit_of b)) Not)
+      ≡ onward base l (cond (t && u) (Some (n * base + digit_of b)) None)
   unfolding read_on
   by_tests true true e f = refl
   by_tests true false e f =
@@ -51,7 +50,7 @@ module _ (base b : ℕ) (l : List ℕ) (n : ℕ) where
   one_digit = by_tests (ltb (digit_of b) base) (ltb (n * base + digit_of b) (2 ^ 64)) refl refl
 
 module _ (s : List ℕ) (from to : ℕ) where
-  pub no_digit : to ≤ from → (base : ℕ) → digits_of base (slice from to s) ≡ Not
+  pub no_digit : to ≤ from → (base : ℕ) → digits_of base (slice from to s) ≡ None
   unfolding digits_of
   no_digit h base =
       let short : length (take to s) ≤ from = rw length-take (omega arith) in
@@ -87,6 +86,6 @@ module _ (s : List ℕ) (from to : ℕ) where
           read_on base (slice from to s) n ≡ onward base (slice (from + 1) to s) (more_of n (digit_of (get_or s from 0)) base)
       next_digit n = rw (slice-cons from to s 0 h within, add-one from) (one_digit base (get_or s from 0) (slice (suc from) to s) n)
 
-pub last_digit : (s : List ℕ) (i to base n : ℕ) → i ≡ to → n < 2 ^ 64 → read_on base (slice i to s) n ≡ Is n
+pub last_digit : (s : List ℕ) (i to base n : ℕ) → i ≡ to → n < 2 ^ 64 → read_on base (slice i to s) n ≡ Some n
 unfolding are_digits behind read_on
 last_digit s i to base n e h = rw (e, slice_empty to s, lt-ltb _ _ h)

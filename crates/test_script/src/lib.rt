@@ -21,13 +21,6 @@ pub enum Stop {
     Line,
 }
 
-// The number that a word is.
-#[derive(Clone, Copy)]
-pub enum NumberAnswer {
-    Is(u64),
-    Not,
-}
-
 // Is b a space, a tab or a carriage return?
 fn blank(b: u8) -> bool
     ensures { result ≡ is_blank b }
@@ -76,38 +69,30 @@ fn digit(b: u8) -> u64
 }
 
 // The number n with one more digit d behind it, where d is a digit of the base and 64 bits hold it.
-fn more(n: u64, d: u64, base: u64) -> NumberAnswer
+fn more(n: u64, d: u64, base: u64) -> Option<u64>
     ensures { result ≡ more_of n d base }
 {
     if d < base {
         if n <= (18446744073709551615 - d) / base {
-            return NumberAnswer::Is(n * base + d);
+            return Some(n * base + d);
         }
     }
-    NumberAnswer::Not
+    None
 }
 
 // The number that the bytes from `from` to before `to` are, as digits of the base, at least one.
-fn digits(s: &[u8], from: usize, to: usize, base: u64) -> NumberAnswer
+fn digits(s: &[u8], from: usize, to: usize, base: u64) -> Option<u64>
     requires { to ≤ length s.now }
     ensures { result ≡ digits_of base (slice from to s.now) }
 {
     if from >= to {
-        return NumberAnswer::Not;
+        return None;
     }
     let mut n: u64 = 0;
     for i in from..to {
-        let next = more(n, digit(s[i]), base);
-        match next {
-            NumberAnswer::Is(m) => {
-                n = m;
-            }
-            NumberAnswer::Not => {
-                return NumberAnswer::Not;
-            }
-        }
+        n = more(n, digit(s[i]), base)?;
     }
-    NumberAnswer::Is(n)
+    Some(n)
 }
 
 // Does the word from `from` to before `to` begin with `0x`?
@@ -124,12 +109,12 @@ fn hexadecimal(s: &[u8], from: usize, to: usize) -> bool
 }
 
 // The number that the bytes from `from` to before `to` are: decimal digits, or `0x` and hexadecimal
-// ones. No digit, another byte, a number above 64 bits, or places outside s: Not.
-pub fn number(s: &[u8], from: usize, to: usize) -> NumberAnswer
+// ones. No digit, another byte, a number above 64 bits, or places outside s: None.
+pub fn number(s: &[u8], from: usize, to: usize) -> Option<u64>
     ensures { result ≡ number_between s.now from to }
 {
     if to > s.len() {
-        return NumberAnswer::Not;
+        return None;
     }
     if hexadecimal(s, from, to) {
         return digits(s, from + 2, to, 16);
@@ -157,8 +142,7 @@ pub fn place(names: &[u8], s: &[u8], from: usize, to: usize) -> usize
     let mut k: usize = 0;
     let mut at = from;
     let mut live = good;
-    for i in 0..names.len() {
-        let b = names[i];
+    for &b in names {
         if b == 32 {
             if live & (at == to) {
                 return k;

@@ -45,33 +45,10 @@ fn over_pairs(vram: &[u16], base: usize, x: usize, y: usize, pairs: usize) -> u8
     ensures { (result ≡ index_of vram.now base x y pairs) × (result < 4 ^ pairs) }
 {
     let mut index: u8 = 0;
-    let mut pair = pairs;
-    while 0 < pair {
-        pair -= 1;
+    for pair in (0..pairs).rev() {
         index = index * 4 + plane_pair(vram, base, x, y, pair);
     }
     index
-}
-
-pub fn decode_2bpp(vram: &[u16], base: usize, x: usize, y: usize) -> u8
-    requires { (x < 8) × (y < 8) }
-    ensures { (result ≡ index_of vram.now base x y 1) × (result < 4) }
-{
-    over_pairs(vram, base, x, y, 1)
-}
-
-pub fn decode_4bpp(vram: &[u16], base: usize, x: usize, y: usize) -> u8
-    requires { (x < 8) × (y < 8) }
-    ensures { (result ≡ index_of vram.now base x y 2) × (result < 16) }
-{
-    over_pairs(vram, base, x, y, 2)
-}
-
-pub fn decode_8bpp(vram: &[u16], base: usize, x: usize, y: usize) -> u8
-    requires { (x < 8) × (y < 8) }
-    ensures { (result ≡ index_of vram.now base x y 4) × (result < 256) }
-{
-    over_pairs(vram, base, x, y, 4)
 }
 
 // The colour index of pixel (x, y) at a depth.
@@ -79,11 +56,7 @@ pub fn color_index(vram: &[u16], bpp: BitDepth, base: usize, x: usize, y: usize)
     requires { (x < 8) × (y < 8) }
     ensures { (result ≡ index_of vram.now base x y (pairs_of bpp)) × (result < 4 ^ pairs_of bpp) }
 {
-    match bpp {
-        BitDepth::Two => decode_2bpp(vram, base, x, y),
-        BitDepth::Four => decode_4bpp(vram, base, x, y),
-        BitDepth::Eight => decode_8bpp(vram, base, x, y),
-    }
+    over_pairs(vram, base, x, y, bpp.plane_pairs())
 }
 
 // A place below `side`, mirrored where a flip says so.

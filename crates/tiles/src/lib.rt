@@ -4,16 +4,15 @@
 
 pub mod inner;
 
-ghost use Rattle.std.specs.Prelude.{◌≡◌, ◌<◌};
-ghost use Rattle.base_refusal.specs.Verdicts.{verdict_means, Passed};
+ghost use Rattle.std.specs.Prelude.{◌≡◌, ◌<◌, ◌≤◌};
+ghost use Rattle.base_refusal.specs.Results.{means, Passed};
 ghost use Rattle.tiles.specs.Tiles.{pairs_of, tile_words, tile_tests, tile_answer};
-ghost use Rattle.tiles.specs.Answers.{index_means};
 
-use base_refusal::{Refusal, Verdict};
+use base_refusal::Refusal;
 use inner::VRAM_WORDS;
 
 // The bits of a pixel's colour index.
-#[derive(Clone, Copy)]
+#[derive(Clone, Copy, Debug, PartialEq, Eq)]
 pub enum BitDepth {
     Two,
     Four,
@@ -21,6 +20,17 @@ pub enum BitDepth {
 }
 
 impl BitDepth {
+    // The plane pairs of a pixel.
+    fn plane_pairs(self) -> usize
+        ensures { (result ≡ pairs_of self) × (result ≤ 4) }
+    {
+        match self {
+            BitDepth::Two => 1,
+            BitDepth::Four => 2,
+            BitDepth::Eight => 4,
+        }
+    }
+
     // The words of a tile in VRAM.
     pub fn tile_words(self) -> usize
         ensures { result ≡ tile_words self }
@@ -33,37 +43,32 @@ impl BitDepth {
     }
 }
 
-#[derive(Clone, Copy)]
-pub enum IndexAnswer {
-    Is(u8),
-    Refused(Refusal),
-}
-
 // The tests of the three decoders: VRAM's length, then the tile word and the pixel.
-fn tested(vram_len: usize, tile_word_base: usize, x: usize, y: usize) -> Verdict
-    ensures { (verdict_means result ≡ tile_tests vram_len tile_word_base x y) × (Passed result → (x < 8) × (y < 8)) }
+fn tested(vram_len: usize, tile_word_base: usize, x: usize, y: usize) -> Result<(), Refusal>
+    ensures { (means result ≡ tile_tests vram_len tile_word_base x y) × (Passed result → (x < 8) × (y < 8)) }
 {
     if vram_len != VRAM_WORDS {
-        return Verdict::Refused(Refusal::Vram);
+        return Err(Refusal::Vram);
     }
-    if tile_word_base < 65536 {
-        if x < 8 {
-            if y < 8 {
-                return Verdict::Fine;
-            }
-        }
+    if tile_word_base < 65536 && x < 8 && y < 8 {
+        Ok(())
+    } else {
+        Err(Refusal::Argument)
     }
-    Verdict::Refused(Refusal::Argument)
 }
 
 // The colour index of a pixel at a depth, once the tests are passed.
-fn decoded(vram: &[u16], bpp: BitDepth, tile_word_base: usize, x: usize, y: usize) -> IndexAnswer
-    ensures { index_means result ≡ tile_answer vram.now tile_word_base x y (pairs_of bpp) }
+fn decoded(
+    vram: &[u16],
+    bpp: BitDepth,
+    tile_word_base: usize,
+    x: usize,
+    y: usize,
+) -> Result<u8, Refusal>
+    ensures { means result ≡ tile_answer vram.now tile_word_base x y (pairs_of bpp) }
 {
-    match tested(vram.len(), tile_word_base, x, y) {
-        Verdict::Fine => IndexAnswer::Is(inner::color_index(vram, bpp, tile_word_base, x, y)),
-        Verdict::Refused(n) => IndexAnswer::Refused(n),
-    }
+    tested(vram.len(), tile_word_base, x, y)?;
+    Ok(inner::color_index(vram, bpp, tile_word_base, x, y))
 }
 
 // The colour index, 0 to 3, of pixel (x, y) in the 2bpp tile at a word of VRAM.
@@ -72,8 +77,8 @@ pub fn decode_2bpp_tile_pixel_from(
     tile_word_base: usize,
     x: usize,
     y: usize,
-) -> IndexAnswer
-    ensures { index_means result ≡ tile_answer vram.now tile_word_base x y 1 }
+) -> Result<u8, Refusal>
+    ensures { means result ≡ tile_answer vram.now tile_word_base x y 1 }
 {
     decoded(vram, BitDepth::Two, tile_word_base, x, y)
 }
@@ -84,8 +89,8 @@ pub fn decode_4bpp_tile_pixel_from(
     tile_word_base: usize,
     x: usize,
     y: usize,
-) -> IndexAnswer
-    ensures { index_means result ≡ tile_answer vram.now tile_word_base x y 2 }
+) -> Result<u8, Refusal>
+    ensures { means result ≡ tile_answer vram.now tile_word_base x y 2 }
 {
     decoded(vram, BitDepth::Four, tile_word_base, x, y)
 }
@@ -96,8 +101,8 @@ pub fn decode_8bpp_tile_pixel_from(
     tile_word_base: usize,
     x: usize,
     y: usize,
-) -> IndexAnswer
-    ensures { index_means result ≡ tile_answer vram.now tile_word_base x y 4 }
+) -> Result<u8, Refusal>
+    ensures { means result ≡ tile_answer vram.now tile_word_base x y 4 }
 {
     decoded(vram, BitDepth::Eight, tile_word_base, x, y)
 }

@@ -8,7 +8,7 @@ use line_pixels::Priority;
 
 // The word address of the tile in VRAM, the row of it, and what holds for all eight pixels: whether
 // they are mirrored, their palette and their priority.
-#[derive(Clone, Copy)]
+#[derive(Clone, Copy, Debug, PartialEq, Eq)]
 pub struct TileRow {
     pub base: usize,
     pub row: u8,

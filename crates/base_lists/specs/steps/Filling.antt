@@ -11,7 +11,7 @@ use Rattle.base_lists.specs.Tab.{tab}
 use Rattle.base_lists.specs.theorems.Tab.{length_tab}
 
 module _ {A : Type 0} where
-  -- the length of an array that is a field of a struct: `search (needs, long_field)`
+  -- the length of an array that is a field of a struct: `search (rules, long_field)`
   pub long_field : {B : Type 0} (g : A → B) (l : List A) (n : ℕ) → length (map g l) ≡ n → length l ≡ n
   long_field g l n e = rw length-map at e
 

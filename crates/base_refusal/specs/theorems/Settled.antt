@@ -1,15 +1,30 @@
--- A verdict's meaning settles it.
-use Rattle.std.specs.Prelude.{◌≡◌, refl}
-use Rattle.base_refusal.specs.Verdicts.{verdict_means}
-use Rattle.base_refusal.specs.declared.Verdict.{Verdict}
-use Rattle.base_refusal.specs.declared.Verdict.TheVariants.{Fine, Refused}
-use Rattle.base_refusal.specs.steps.Settled.{Made, settled, by_value, by_refusal}
+-- The meaning settles the result: two results of one meaning are one.
+use Rattle.std.specs.Prelude.{ℕ, ◌≡◌, Result, Ok, Err}
+use Rattle.std.proofs.Common.{sym, ap, arith}
+use Rattle.base_refusal.specs.Answer.{Answer, value, refused}
+use Rattle.base_refusal.specs.Results.{means, outcome_of}
+use Rattle.base_refusal.specs.theorems.Numbers.{one_number}
+use Rattle.base_refusal.specs.declared.Refusal.{Refusal}
 
--- the same for a verdict, which stands in an answer whose value is beside it
-made_verdict : (v : Verdict) → Made (λ (u : Unit {0}). Fine) Refused v
-made_verdict Fine = by_value tt
-made_verdict (Refused r) = by_refusal r
+same_value : {A : Type 0} {a b : A} → value a ≡ value b → a ≡ b
+same_value e = cc
 
-pub one_verdict : (v w : Verdict) → verdict_means v ≡ verdict_means w → v ≡ w
-one_verdict v w =
-    settled (λ (u : Unit {0}). Fine) Refused verdict_means (λ u. refl) (λ r. refl) (made_verdict v) (made_verdict w)
+apart : {A : Type 0} {a : A} {n : ℕ} → value a ≡ refused n → ⊥
+apart e = let z : ◌≡◌ {A = ℕ} 0 1 = cc in omega arith
+
+same_number : {A : Type 0} {m n : ℕ} → ◌≡◌ {A = Answer A} (refused m) (refused n) → m ≡ n
+same_number e = cc
+
+module _ {A : Type 0} where
+  pub one_result : (a b : Result A Refusal) → means a ≡ means b → a ≡ b
+  one_result (Ok a) (Ok b) e = ap Ok (same_value e)
+  one_result (Ok a) (Err r) e = absurd (apart e)
+  one_result (Err r) (Ok b) e = absurd (apart (sym e))
+  one_result (Err r) (Err s) e = ap Err (one_number r s (same_number e))
+
+  -- the same where what is kept stands beside a refusal
+  pub one_outcome : (kept : A) (a b : Result A Refusal) → outcome_of kept a ≡ outcome_of kept b → a ≡ b
+  one_outcome kept (Ok a) (Ok b) e = ap Ok (λ i. (e i).left)
+  one_outcome kept (Ok a) (Err r) e = absurd (apart (λ i. (e i).said))
+  one_outcome kept (Err r) (Ok b) e = absurd (apart (λ i. (sym e i).said))
+  one_outcome kept (Err r) (Err s) e = ap Err (one_number r s (same_number (λ i. (e i).said)))

@@ -1,15 +1,14 @@
-use Rattle.frame_library.proofs.Read.{read_fine, read_told}
+use Rattle.frame_library.proofs.Read.{read_ok, read_told}
 use mathlib.Core.Path.{sym, ap, ◌∙◌}
-use Rattle.base_refusal.specs.Verdicts.{verdict_means}
-use borrow.Author.Rules.{rules}
+use Rattle.base_refusal.specs.Results.{means}
 use Rattle.frame_library.proofs.frame.Goals as goal
 
 pub show-requires : goal.show-requires
 show-requires c =
-    record { lengths = search rules; scene_read = read_fine c.input.ensures c.in-Fine.is }
+    read_ok c.input.ensures c.in-Ok.is
 
-pub returns-in-Fine : goal.returns-in-Fine
-returns-in-Fine c = read_told c.input.ensures (ap verdict_means (sym c.in-Fine.is))
+pub returns-in-Ok : goal.returns-in-Ok
+returns-in-Ok c = read_told c.input.ensures (ap means (sym c.in-Ok.is))
 
-pub returns-in-Refused : goal.returns-in-Refused
-returns-in-Refused c = read_told c.input.ensures (c.refuse.ensures ∙ ap verdict_means (sym c.in-Refused.is))
+pub returns-in-Err : goal.returns-in-Err
+returns-in-Err c = read_told c.input.ensures (c.refuse.ensures ∙ ap means (sym c.in-Err.is))

@@ -14,10 +14,9 @@ returns-then-at-eq0 c = inl refl
 
 pub walk-requires : goal.walk-requires
 walk-requires c =
-    let p = c.requires.lengths in
     let fifteen = ap length c.header-first.ensures in
     let at : c.hand-at.result ≡ 15 = ⊎_elim (λ e. omega arith) (λ e. absurd (c.if-at-eq0.false e)) c.hand-at.ensures.1 in
-    (p.0, (p.1.0, (search rules, at)))
+    (search rules, at)
 
 pub returns : goal.returns
 returns c =

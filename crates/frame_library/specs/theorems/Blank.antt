@@ -1,5 +1,5 @@
 -- A frame under forced blank.
-use Rattle.std.specs.Prelude.{ℕ, zero, suc, ◌+◌, ◌*◌, ◌≡◌, refl, cond, List, ◌++◌}
+use Rattle.std.specs.Prelude.{ℕ, zero, suc, ◌+◌, ◌*◌, ◌≡◌, cond, List, ◌++◌}
 use Rattle.std.proofs.Common.{sym, ap, ◌∙◌, arith}
 use Rattle.base_lists.specs.Tab.{tab}
 use Rattle.base_lists.specs.theorems.Tab.{tab_none, tab_split}

@@ -8,9 +8,9 @@ use Rattle.oam_port.specs.Sequences.{Access, Reply, step, reply, Called, PortCal
 
 -- a call does and says what the machine does and says
 pub one_call : (a : Access) (m n : Machine) (r : Reply) → Called a m r n → (n ≡ step a m) × (r ≡ reply a m)
-one_call a m n r (wrote_address p v oam b e) = (λ i. (e i).left, λ i. written (e i).said)
-one_call a m n r (wrote_data p v entry exit b e) = (λ i. (e i).left, λ i. written (e i).said)
-one_call a m n r (read_data p oam b e) = (λ i. (e i).left, λ i. byte (e i).said)
+one_call a m n r (wrote_address p q v oam b e) = (λ i. (e i).left, λ i. written (e i).said)
+one_call a m n r (wrote_data p q v before after b e) = (λ i. (e i).left, λ i. written (e i).said)
+one_call a m n r (read_data p q oam b e) = (λ i. (e i).left, λ i. byte (e i).said)
 
 -- every sequence of calls ends where the machine's run ends, and heard what the machine says
 pub one_machine : (l : List Access) (m n : Machine) (rs : List Reply) → PortCalls l m rs n →

@@ -1,5 +1,5 @@
 -- Pixels as numbers: how a whole row holds its lines. Nothing here is needed to know what a row shows.
-use Rattle.std.specs.Prelude.{ℕ, ◌+◌, ◌*◌, ◌/◌, ◌%◌, Bool, true, false, cond, List, get_or, leb}
+use Rattle.std.specs.Prelude.{ℕ, zero, suc, ◌+◌, ◌*◌, ◌/◌, ◌%◌, Bool, true, false, cond, List, [], get_or, leb}
 use Rattle.line_pixels.specs.declared.Layer.{Layer}
 use Rattle.line_pixels.specs.declared.Layer.TheVariants.{Backdrop, Bg1, Bg2, Bg3, Bg4, Obj}
 use Rattle.line_pixels.specs.declared.Priority.{Priority}
@@ -45,15 +45,12 @@ held_after held c = cond (leb (held / rank_place) (c / rank_place)) c held
 abbrev pub held_unless : Bool → ℕ → ℕ → ℕ
 held_unless barred held c = held_after held (cond barred 0 c)
 
--- column x of a line: the rows of five layers over a backdrop, each except at the columns that are barred for it
-unfoldable pub line_rule : ℕ → List ℕ → List Bool → List ℕ → List Bool → List ℕ → List Bool → List ℕ → List Bool → List ℕ → List Bool → ℕ → ℕ
-line_rule back bg1 bg1Barred bg2 bg2Barred bg3 bg3Barred bg4 bg4Barred obj obj_barred x =
-    held_unless (get_or obj_barred x false)
-    (held_unless (get_or bg4Barred x false)
-    (held_unless (get_or bg3Barred x false)
-    (held_unless (get_or bg2Barred x false)
-    (held_unless (get_or bg1Barred x false) back (get_or bg1 x 0))
-    (get_or bg2 x 0))
-    (get_or bg3 x 0))
-    (get_or bg4 x 0))
-    (get_or obj x 0)
+-- column x of a line after its first n layers: their rows over a backdrop, each except at the columns that are barred for it
+unfoldable pub laid_to : ℕ → List (List ℕ) → List (List Bool) → ℕ → ℕ → ℕ
+laid_to back rows barred x zero = back
+laid_to back rows barred x (suc n) =
+    held_unless (get_or (get_or barred n []) x false) (laid_to back rows barred x n) (get_or (get_or rows n []) x 0)
+
+-- after all five
+abbrev pub line_rule : ℕ → List (List ℕ) → List (List Bool) → ℕ → ℕ
+line_rule back rows barred x = laid_to back rows barred x 5

@@ -1,16 +1,14 @@
 -- Laying order never shows (demand 3). From the backdrops, the five layers laid in any order, each at least once, leave at
 -- every pixel of both lines the candidate of greatest priority, or the backdrop where there is none.
-use Rattle.std.specs.Prelude.{ℕ, ◌<◌, ◌≡◌, Bool, true, false, ltb, eqb, length, get_or}
+use Rattle.std.specs.Prelude.{ℕ, ◌<◌, ◌≡◌, Ok, Bool, true, false, ltb, eqb, length, get_or}
 use Rattle.std.proofs.Math.Path.{refl, ap, subst}
 use Rattle.std.proofs.Common.{sym, ◌∙◌, arith, ltb-false}
 use mathlib.Core.List.{List, [], ◌∷◌}
 use Rattle.base_refusal.specs.Answer.{Answer, value, refused, provided, outcome}
-use Rattle.base_refusal.specs.Verdicts.{verdict_means}
+use Rattle.base_refusal.specs.Results.{outcome_of}
 use Rattle.row_tests.specs.Tests.{layer_tests}
 use Rattle.line_pixels.specs.declared.Lines.{Lines}
 use Rattle.line_pixels.specs.Pixels.{no_pixel, backdrop_of, backdrop_lines}
-use Rattle.line_laying.specs.declared.LinesAnswer.{LinesAnswer}
-use Rattle.line_laying.specs.Answers.{lines_mean}
 use Rattle.line_laying.specs.Laying.{lay_lines}
 use Rattle.line_laying.specs.Order.{Seen, lay_all}
 use Rattle.line_laying.specs.theorems.Order.{main_seen, sub_seen, order_never_shows}
@@ -64,27 +62,26 @@ module _ (s : Scene) (y : ℕ) where
       m ≡ lay_all (layer_shown s) (layer_pixel s y) ks l
   unfolding lay_all
   calls_lay t [] w none = refl
-  calls_lay t {l} (k ∷ ks) w (call a c r) =
-      let left : a.lines ≡ (layer_outcome s y k l).left = λ i. (c i).left in
+  calls_lay t {l} (k ∷ ks) w (call v after c r) =
+      let left : after ≡ (layer_outcome s y k l).left = λ i. (c i).left in
       let laid = left ∙ call_lays t k l w in
       let full = subst FullLines (sym laid) (full_laid (layer_shown s k) (layer_pixel s y k) l) in
       calls_lay t ks full r ∙ ap (lay_all (layer_shown s) (layer_pixel s y) ks) laid
 
-  from_start : (a : LinesAnswer) → lines_mean a ≡ backdrop_outcome s.cgram s.regs → verdict_means a.verdict ≡ value tt →
-      a.lines ≡ start_lines s
-  from_start a = by_test (eqb (length s.cgram) 256)
+  from_start : (l : Lines) → outcome_of (backdrop_lines 0 0) (Ok l) ≡ backdrop_outcome s.cgram s.regs → l ≡ start_lines s
+  from_start l = by_test (eqb (length s.cgram) 256)
     where
-      by_test : (t : Bool) → lines_mean a ≡ outcome (provided t 3 (value tt)) tt (start_lines s) (backdrop_lines 0 0) →
-          verdict_means a.verdict ≡ value tt → a.lines ≡ start_lines s
-      by_test true e f = λ i. (e i).left
-      by_test false e f =
-          let said : verdict_means a.verdict ≡ refused 3 = λ i. (e i).said in
+      by_test : (t : Bool) → outcome_of (backdrop_lines 0 0) (Ok l) ≡ outcome (provided t 3 (value tt)) tt (start_lines s) (backdrop_lines 0 0) →
+          l ≡ start_lines s
+      by_test true e = λ i. (e i).left
+      by_test false e =
+          let said : ◌≡◌ {A = Answer Unit} (value tt) (refused 3) = λ i. (e i).said in
           let z : ◌≡◌ {A = ℕ} 0 1 = cc in
           absurd (omega arith)
 
   pub run_lays : layer_tests s y true ≡ value tt → {m : Lines} (ks : List ℕ) → Run s y ks m → m ≡ lines_after s y ks
   run_lays t ks r =
-      let from = from_start r.start r.begins r.fine in
+      let from = from_start r.start r.begins in
       calls_lay t ks (subst FullLines (sym from) (full_start s)) r.calls ∙ ap (lay_all (layer_shown s) (layer_pixel s y) ks) from
 
   -- After any calls, with each of the five layers at least once, there stands at each pixel of the main line the candidate of

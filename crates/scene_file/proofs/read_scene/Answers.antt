@@ -1,58 +1,49 @@
-use Prim.Native.Nat.{ℕ, ◌*◌, ◌≤◌}
-use mathlib.Core.Path.{◌≡◌, refl, ap, ◌∙◌}
-use native.Mathlib.Omega.{arith}
-use lib.ListN.{length}
-use Rattle.base_refusal.specs.theorems.Verdicts.{passed, by_fine, by_refusal_lem}
+use Rattle.std.specs.Prelude.{ℕ, ◌*◌, ◌≡◌, List, length, refl}
+use Rattle.std.proofs.Common.{ap, ◌∙◌, eq-eqb, ne_eqb}
+use Rattle.std.proofs.lemmas.Bool.{false≢true}
+use Rattle.std.proofs.lemmas.Option.{MatchOption-at_some}
+use Rattle.std.proofs.lemmas.Result.{err_from_is_err_and}
+use Rattle.std.specs.Option.{ok_or}
+use Rattle.base_refusal.specs.Answer.{Answer, value, refused, outcome}
+use Rattle.base_refusal.specs.steps.Said.{said_of}
+use Rattle.base_refusal.specs.declared.Refusal.TheVariants.{Oam}
 use Rattle.registers.specs.Scene.{scene}
 use Rattle.registers.specs.Screen.{cleared}
 use Rattle.scene_bytes.specs.Bytes.{words_of}
-use Rattle.scene_file.specs.File.{body_at, scene_of}
+use Rattle.scene_file.specs.File.{body_at, scene_of, scene_tests, read_outcome}
 use Rattle.scene_file.proofs.read_scene.Goals as goal
-use Rattle.scene_file.proofs.read_scene.Goals.{After-fill_bytes-arg-1, After-fill_words-arg-1, After-fill_words-arg-in-Fine-1, After-registers-registers}
 
--- what the tests leave
-good-1 : (c : After-fill_bytes-arg-1) → let a = c.args in
-    ((length a.vram.now ≡ 32768) × ((length a.cgram.now ≡ 256) × (length a.oam.now ≡ 544))) × (66656 ≤ length a.scene.now)
-good-1 c = c.tested.ensures.1 (passed c.in-Fine.is)
+module _ (bytes v g o : List ℕ) (vram : length v ≡ 32768) (cgram : length g ≡ 256) where
+  -- what is left where the targets have their lengths
+  right_targets : length o ≡ 544 → outcome (scene_tests bytes) tt (scene_of bytes) (scene cleared v g o) ≡ read_outcome bytes v g o
+  right_targets oam = rw (eq-eqb (length v) 32768 vram, eq-eqb (length g) 256 cgram, eq-eqb (length o) 544 oam) refl
 
--- what the tests leave
-good-2 : (c : After-fill_words-arg-1) → let a = c.args in
-    ((length a.vram.now ≡ 32768) × ((length a.cgram.now ≡ 256) × (length a.oam.now ≡ 544))) × (66656 ≤ length a.scene.now)
-good-2 c = c.tested.ensures.1 (passed c.in-Fine.is)
+  -- and where only the last has another
+  wrong_oam : (length o ≡ 544 → ⊥) → record { said = refused 4; left = scene cleared v g o } ≡ read_outcome bytes v g o
+  wrong_oam oam = rw (eq-eqb (length v) 32768 vram, eq-eqb (length g) 256 cgram, ne_eqb (length o) 544 oam) refl
 
--- what the tests leave
-good-3 : (c : After-fill_words-arg-in-Fine-1) → let a = c.args in
-    ((length a.vram.now ≡ 32768) × ((length a.cgram.now ≡ 256) × (length a.oam.now ≡ 544))) × (66656 ≤ length a.scene.now)
-good-3 c = c.tested.ensures.1 (passed c.in-Fine.is)
+pub returns-in_err-oam : goal.returns-in_err-oam
+returns-in_err-oam c =
+    let a = c.args in
+    let r = err_from_is_err_and c.from_residual-in_err-oam.result c.from_residual-in_err-oam.ensures.1 in
+    let v = MatchOption-at_some _ _ _ c.in_ok-vram.ensures.ok_part c.as_mut_array.ensures.cases in
+    let g = MatchOption-at_some _ _ _ c.in_ok-cgram.ensures.ok_part c.as_mut_array-2.ensures.cases in
+    let none : length a.oam.now ≡ 544 → ⊥ = λ e. false≢true (c.in_err-oam.ensures.variant ∙ c.as_mut_array-3.ensures.variant.1 e) in
+    let said = ap said_of (c.in_err-oam.ensures.value ∙ ap (λ o. ok_or o Oam) c.in_err-oam.ensures.ok_part) in
+    rw (r.1, r.2, v.same, g.same)
+    ((λ i. record { said = said i; left = scene cleared a.vram.now a.cgram.now a.oam.now })
+    ∙ wrong_oam a.scene.now a.vram.now a.cgram.now a.oam.now v.long g.long none)
 
--- what the tests leave
-good-4 : (c : After-registers-registers) → let a = c.args in
-    ((length a.vram.now ≡ 32768) × ((length a.cgram.now ≡ 256) × (length a.oam.now ≡ 544))) × (66656 ≤ length a.scene.now)
-good-4 c = c.tested.ensures.1 (passed c.in-Fine.is)
-
-pub fill_words-requires : goal.fill_words-requires
-fill_words-requires c = let g = good-2 c in (omega (arith, g.0.0), g.1)
-
-pub fill_words-requires-in-Fine : goal.fill_words-requires-in-Fine
-fill_words-requires-in-Fine c = let g = good-3 c in (omega (arith, g.0.1.0), g.1)
-
-pub fill_bytes-requires : goal.fill_bytes-requires
-fill_bytes-requires c = let g = good-1 c in (omega (arith, g.0.1.1), g.1)
-
-pub returns-in-Fine : goal.returns-in-Fine
-returns-in-Fine c =
+pub returns : goal.returns
+returns c =
     let a = c.args in
     let bytes = a.scene.now in
-    let v = c.fill_words.ensures ∙ ap (λ (n : ℕ). words_of n (body_at bytes 1120 (n * 2))) (good-4 c).0.0 in
-    let g = c.fill_words-in-Fine.ensures ∙ ap (λ (n : ℕ). words_of n (body_at bytes 604 (n * 2))) (good-4 c).0.1.0 in
-    let o = c.fill_bytes.ensures ∙ ap (λ (n : ℕ). body_at bytes 56 n) (good-4 c).0.1.1 in
-    by_fine tt (scene_of bytes) (scene cleared a.vram.now a.cgram.now a.oam.now) c.tested.ensures.0
-    c.in-Fine.is refl
-    (λ i. scene (c.registers-registers.ensures i) (v i) (g i) (o i))
-
-pub returns-in-Refused : goal.returns-in-Refused
-returns-in-Refused c =
-    let a = c.args in
-    by_refusal_lem tt (scene_of a.scene.now) (scene cleared a.vram.now a.cgram.now a.oam.now)
-    c.tested.ensures.0 c.in-Refused.is
-    (λ i. scene (c.new-registers.ensures i) a.vram.now a.cgram.now a.oam.now)
+    let v = MatchOption-at_some _ _ _ c.in_ok-vram.ensures.ok_part c.as_mut_array.ensures.cases in
+    let g = MatchOption-at_some _ _ _ c.in_ok-cgram.ensures.ok_part c.as_mut_array-2.ensures.cases in
+    let o = MatchOption-at_some _ _ _ c.in_ok-oam.ensures.ok_part c.as_mut_array-3.ensures.cases in
+    let words = c.fill_words.ensures ∙ ap (λ (n : ℕ). words_of n (body_at bytes 1120 (n * 2))) (ap length v.same ∙ v.long) in
+    let colours = c.fill_words-2.ensures ∙ ap (λ (n : ℕ). words_of n (body_at bytes 604 (n * 2))) (ap length g.same ∙ g.long) in
+    let sprites = c.fill_bytes.ensures ∙ ap (λ (n : ℕ). body_at bytes 56 n) (ap length o.same ∙ o.long) in
+    (λ i. record { said = value tt; left = scene (c.registers.ensures i) (words i) (colours i) (sprites i) })
+    ∙ (ap (λ (t : Answer Unit). outcome t tt (scene_of bytes) (scene cleared a.vram.now a.cgram.now a.oam.now)) c.in_ok-scene_tested.ensures.0
+    ∙ right_targets bytes a.vram.now a.cgram.now a.oam.now v.long g.long o.long)

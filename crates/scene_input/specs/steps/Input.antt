@@ -1,8 +1,8 @@
 -- A scene's sections one after another: what is held after each.
-use Rattle.std.specs.Prelude.{ℕ, ◌+◌, ◌≡◌, Bool, List, ◌++◌, length, take, drop}
+use Rattle.std.specs.Prelude.{ℕ, ◌+◌, ◌≡◌, Bool, List, ◌++◌, length, take, drop, Result}
 use Rattle.base_refusal.specs.Answer.{Answer, ◌and_then◌}
-use Rattle.base_refusal.specs.Verdicts.{verdict_means, Passed}
-use Rattle.base_refusal.specs.declared.Verdict.{Verdict}
+use Rattle.base_refusal.specs.Results.{means, Passed}
+use Rattle.base_refusal.specs.declared.Refusal.{Refusal}
 use Rattle.scene_bytes.specs.Bytes.{words_of}
 use Rattle.scene_file.specs.File.{section_tests, end_tests}
 use Rattle.scene_input.specs.Input.{Follows}
@@ -11,10 +11,10 @@ use Rattle.scene_input.specs.Input.{Follows}
 abbrev pub first_section : ℕ → List ℕ → Answer Unit
 first_section n bytes = section_tests bytes 0 n
 
-pub record SectionRead (n : ℕ) (P : List ℕ → Type 0) (v : Verdict) : Type 0 where
+pub record SectionRead (n : ℕ) (P : List ℕ → Type 0) (v : Result Unit Refusal) : Type 0 where
   pub bytes : List ℕ
   pub ended : Bool
-  pub said : (more : List ℕ) → Follows ended more → verdict_means v ≡ first_section n (bytes ++ more)
+  pub said : (more : List ℕ) → Follows ended more → means v ≡ first_section n (bytes ++ more)
   pub long : Passed v → length bytes ≡ 4 + n
   pub holds : Passed v → P (drop 4 bytes)
 

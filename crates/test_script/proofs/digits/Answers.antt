@@ -12,19 +12,20 @@ pub loop-i-init : goal.loop-i-init
 loop-i-init c = (omega arith, omega arith, first_digit _ _ _ c.requires _ c.if-from-to.false)
 
 -- what is left to read says, behind what is read, what the whole word says
-pub returns-in-Not : goal.returns-in-Not
-returns-in-Not c =
-    ap (onward _ _) (sym c.in-Not.is)
-    ∙ (ap (onward _ _) (c.more-next.ensures ∙ ap (λ (d : ℕ). more_of c.loop-i.n d c.args.base) c.digit.ensures)
+pub returns-in_err-n : goal.returns-in_err-n
+returns-in_err-n c =
+    c.from_residual.ensures
+    ∙ (ap (onward _ _) (sym c.in_err-n.was)
+    ∙ (ap (onward _ _) (c.more.ensures ∙ ap (λ (d : ℕ). more_of c.loop-i.n d c.args.base) c.digit.ensures)
     ∙ (sym (next_digit _ _ _ c.requires _ c.loop-i-test.true _)
-    ∙ c.loop-i.invariant.2))
+    ∙ c.loop-i.invariant.2)))
 
 pub loop-i-preserved : goal.loop-i-preserved
 loop-i-preserved c = (
   omega arith,
   omega arith,
-  ap (onward _ _) (sym c.in-Is.is)
-      ∙ (ap (onward _ _) (c.more-next.ensures ∙ ap (λ (d : ℕ). more_of c.loop-i.n d c.args.base) c.digit.ensures)
+  ap (onward _ _) (sym c.in_ok-n.was)
+      ∙ (ap (onward _ _) (c.more.ensures ∙ ap (λ (d : ℕ). more_of c.loop-i.n d c.args.base) c.digit.ensures)
       ∙ (sym (next_digit _ _ _ c.requires _ c.loop-i-test.true _)
       ∙ c.loop-i.invariant.2)),
 )

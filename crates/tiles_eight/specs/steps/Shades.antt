@@ -1,14 +1,12 @@
 -- The packed pixels of a tile's row, from its plane words. Nothing here is needed to know what a layer shows.
-use Rattle.std.specs.Prelude.{ℕ, ◌+◌, ◌*◌, ◌%◌, cond, not, List, get_or, eqb}
+use Rattle.std.specs.Prelude.{ℕ, zero, suc, ◌+◌, ◌*◌, ◌%◌, ◌^◌, cond, not, List, get_or, eqb}
 use Rattle.tiles.specs.Tiles.{two_bits}
 use Rattle.colour.specs.Colour.{direct_colour}
 
--- the index of a column in the words of two plane pairs, and of four
-abbrev pub four_of : ℕ → ℕ → ℕ → ℕ
-four_of w0 w1 col = two_bits w0 col + 4 * two_bits w1 col
-
-abbrev pub eight_of : ℕ → ℕ → ℕ → ℕ → ℕ → ℕ
-eight_of w0 w1 w2 w3 col = four_of w0 w1 col + 16 * four_of w2 w3 col
+-- the colour index of a column in the words of n plane pairs, the first the lowest
+unfoldable pub index_in : List ℕ → ℕ → ℕ → ℕ
+index_in words col zero = 0
+index_in words col (suc n) = index_in words col n + 4 ^ n * two_bits (get_or words n 0) col
 
 -- a pixel of index i: 0 where it is transparent
 unfoldable pub shade : List ℕ → ℕ → ℕ → ℕ

@@ -17,19 +17,19 @@ loop-x-preserved c =
     let a = c.args in
     let s = o.start in
     let b = a.block in
-    let m = c.least-end.ensures in
+    let m = c.min-end.ensures in
     let h = c.loop-x-test.true in
     let k : l.x < s + b = omega (arith, m, h) in
     let n : l.x < 256 = omega (arith, m, h) in
-    (front_more l.invariant.0 n _ (ap (λ (j : ℕ). candidate_in a.cells (j + a.fine)) (sym (block_start b s l.x (o.invariant.1 c.loop-start-test.true) l.invariant.1.0 k))), (omega (arith, l.invariant.1.0), omega (arith, h)))
+    (front_more l.invariant.0 n _ (ap (λ (j : ℕ). candidate_in a.cells.now (j + a.fine)) (sym (block_start b s l.x (o.invariant.1 c.loop-start-test.true) l.invariant.1.0 k))), (omega (arith, l.invariant.1.0), omega (arith, h)))
 
 pub loop-start-preserved : goal.loop-start-preserved
 loop-start-preserved c =
     let l = c.loop-x in
     let o = c.loop-start in
     let a = c.args in
-    let m = c.least-end.ensures in
-    let x : l.x ≡ c.least-end.result = omega (arith, l.invariant.1.1, c.loop-x-test.false) in
+    let m = c.min-end.ensures in
+    let x : l.x ≡ c.min-end.result = omega (arith, l.invariant.1.1, c.loop-x-test.false) in
     (front_at x l.invariant.0, λ h. ap (λ (n : ℕ). n % a.block) m ∙ next_start a.block o.start (o.invariant.1 c.loop-start-test.true) (subst (λ (n : ℕ). n < 256) m h))
 
 pub returns : goal.returns

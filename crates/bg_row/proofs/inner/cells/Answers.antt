@@ -20,14 +20,14 @@ character_row-t-requires c =
 
 pub palette-colors-requires : goal.palette-colors-requires
 palette-colors-requires c =
-    (c.requires.0, (c.requires.1.0, c.character_row-t.ensures.1.palette_in))
+    (omega arith, (c.requires.0, c.character_row-t.ensures.1.palette_in))
 
 pub loop-k-init : goal.loop-k-init
 loop-k-init c = let l = c.loop-j in (simp add-zero l.invariant.0, omega arith)
 
 pub cell-requires : goal.cell-requires
 cell-requires c =
-    let long = palette_length c.args.cgram.now c.args.p c.character_row-t.result.palette c.requires.0 c.requires.1.0 c.character_row-t.ensures.1.palette_in in
+    let long = palette_length c.args.cgram.now c.args.p c.character_row-t.result.palette (search rules) c.requires.0 c.character_row-t.ensures.1.palette_in in
     (rw c.palette-colors.ensures long, (c.character_row-t.ensures.1, c.loop-k-test.true))
 
 pub loop-k-preserved : goal.loop-k-preserved

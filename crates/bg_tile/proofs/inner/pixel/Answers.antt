@@ -1,3 +1,4 @@
+use Rattle.std.proofs.Common.{rules}
 use Rattle.bg_tile.proofs.Laws.{palette_length, cell_is_pixel}
 use Rattle.bg_tile.specs.steps.Characters.{cell_in}
 use Rattle.bg_tile.specs.Tile.{bg_colours, pixel_at}
@@ -9,7 +10,7 @@ use Rattle.bg_tile.proofs.inner.pixel.Goals as goal
 pub cell-requires : goal.cell-requires
 cell-requires c =
     let long =
-    palette_length c.args.cgram.now c.args.p c.character_row-t.result.palette c.requires.0.0 c.requires.0.1
+    palette_length c.args.cgram.now c.args.p c.character_row-t.result.palette (search rules) c.requires.0
     c.character_row-t.ensures.1.palette_in in
     (rw c.palette-colors.ensures long, (c.character_row-t.ensures.1, omega arith))
 

@@ -6,13 +6,12 @@ use Rattle.frame_library.proofs.Walk.{row_part_lem, walked_none, walked_more, wa
 use Rattle.frame_library.proofs.inner.walk.Goals as goal
 
 pub loop-y-init : goal.loop-y-init
-loop-y-init c = let p = c.requires in walked_none _ p.1.1.0 p.1.1.1
+loop-y-init c = let p = c.requires in walked_none _ p.0 p.1
 
 pub draw_row-counter-requires : goal.draw_row-counter-requires
 draw_row-counter-requires c =
     let i = c.loop-y.invariant in
-    let p = c.requires in
-    (record { palettes = p.0; memory = p.1.0; row = c.loop-y-test.true }, (i.long, i.walked))
+    (c.loop-y-test.true, (i.long, i.walked))
 
 pub hand-next-requires : goal.hand-next-requires
 hand-next-requires c =

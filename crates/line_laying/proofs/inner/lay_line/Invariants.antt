@@ -8,7 +8,7 @@ use Prim.Native.Nat.{◌-◌}
 use Rattle.line_laying.proofs.inner.lay_line.Given as goal
 
 abbrev pub invariant-loop-x : goal.invariant-loop-x
-invariant-loop-x l = Filled 256 (λ k. deposited (get_or l.initial.out k no_pixel) (marked (not (l.win && get_or l.mask k false)) (candidate_in l.row k))) l.initial.out l.out l.x
+invariant-loop-x l = Filled 256 (λ k. deposited (get_or l.initial.line k no_pixel) (marked (not (l.win && get_or l.mask k false)) (candidate_in l.row k))) l.initial.line l.line l.x
 
 abbrev pub decreases-loop-x : goal.decreases-loop-x
 decreases-loop-x l = 256 - l.x

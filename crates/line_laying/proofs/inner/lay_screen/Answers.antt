@@ -14,12 +14,12 @@ use Rattle.line_laying.proofs.inner.lay_screen.Goals as goal
 pub returns-then-lit : goal.returns-then-lit
 returns-then-lit c =
     let a = c.args in
-    let t : ℕ → Bool = λ x. not (a.win && get_or a.mask x false) in
+    let t : ℕ → Bool = λ x. not (a.win && get_or a.mask.now x false) in
     c.lay_line.ensures
-    ∙ tab_ext 256 _ _ (λ x h. laid_as_shown (get_or a.line x no_pixel) (t x) (candidate_in a.row x)
-    ∙ ap (λ (b : Bool). deposited (get_or a.line x no_pixel) (on_screen (b && t x) (candidate_in a.row x))) (sym c.if-lit.true))
+    ∙ tab_ext 256 _ _ (λ x h. laid_as_shown (get_or a.line.now x no_pixel) (t x) (candidate_in a.row.now x)
+    ∙ ap (λ (b : Bool). deposited (get_or a.line.now x no_pixel) (on_screen (b && t x) (candidate_in a.row.now x))) (sym c.if-lit.true))
 
-pub returns : goal.returns
-returns c =
+pub returns-else-lit : goal.returns-else-lit
+returns-else-lit c =
     let a = c.args in
-    unlit_line (λ x. a.win && get_or a.mask x false) (candidate_in a.row) a.line c.if-lit.false (search (rules, long_field))
+    unlit_line (λ x. a.win && get_or a.mask.now x false) (candidate_in a.row.now) a.line.now c.if-lit.false (search (rules, long_field))

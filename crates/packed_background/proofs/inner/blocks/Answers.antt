@@ -38,7 +38,7 @@ loop-start-preserved c =
     let l = c.loop-k in
     let o = c.loop-start in
     let b = c.args.block in
-    let e : o.start + min l.k b ≡ o.start + b = omega (arith, l.invariant.1, c.loop-k-test.false, c.requires.1.1.1) in
+    let e : o.start + min l.k b ≡ o.start + b = omega (arith, l.invariant.1, c.loop-k-test.false, c.requires.1.1) in
     (front_at e l.invariant.0, add-mod_right o.start b ∙ o.invariant.1)
 
 pub returns : goal.returns

@@ -24,7 +24,7 @@ character_row-t-requires c =
 
 pub eight-pixels-requires : goal.eight-pixels-requires
 eight-pixels-requires c =
-    ((c.requires.1.0, c.requires.1.1.0), c.character_row-t.ensures.1)
+    (c.requires.0, c.character_row-t.ensures.1)
 
 pub loop-k-init : goal.loop-k-init
 loop-k-init c = let l = c.loop-j in (simp add-zero l.invariant.0, omega arith)

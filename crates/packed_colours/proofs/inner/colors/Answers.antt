@@ -20,16 +20,16 @@ settings-is-2 : (c : After-mix) → c.of-s.result ≡ settings_of c.args.r
 settings-is-2 c = c.of-s.ensures
 
 abbrev mainOf-1 : (s : After-keep) → ℕ → ℕ
-mainOf-1 s = let p = s.args in screen_at p.bg1.now p.bg2.now p.bg3.now p.bg4.now p.obj.now p.back p.r p.r.tm p.r.tmw
+mainOf-1 s = let p = s.args in screen_at p.rows.now p.back p.r p.r.tm p.r.tmw
 
 abbrev mainOf-2 : (s : After-mix) → ℕ → ℕ
-mainOf-2 s = let p = s.args in screen_at p.bg1.now p.bg2.now p.bg3.now p.bg4.now p.obj.now p.back p.r p.r.tm p.r.tmw
+mainOf-2 s = let p = s.args in screen_at p.rows.now p.back p.r p.r.tm p.r.tmw
 
 abbrev subOf-1 : (s : After-keep) → ℕ → ℕ
-subOf-1 s = let p = s.args in packed_sub_at p.bg1.now p.bg2.now p.bg3.now p.bg4.now p.obj.now p.r
+subOf-1 s = let p = s.args in packed_sub_at p.rows.now p.r
 
 abbrev subOf-2 : (s : After-mix) → ℕ → ℕ
-subOf-2 s = let p = s.args in packed_sub_at p.bg1.now p.bg2.now p.bg3.now p.bg4.now p.obj.now p.r
+subOf-2 s = let p = s.args in packed_sub_at p.rows.now p.r
 
 main-is-1 : (c : After-keep) (x : ℕ) → x < 256 → get_or c.screen-main.result x 0 ≡ mainOf-1 c x
 main-is-1 c x h = (λ i. get_or (c.screen-main.ensures i) x 0) ∙ get_d_tab (mainOf-1 c) 256 x 0 h

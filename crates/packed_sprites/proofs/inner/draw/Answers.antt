@@ -41,19 +41,19 @@ loop-i-preserved-then-at-ge264 c =
     let g = a.g.now in
     let l = c.loop-i in (
       shows_ext l.invariant.0
-          (λ x h. after_outside v g (row_of c.args.f.rows c.loop-i.i) (held c.args.vram.now c.args.g.now c.args.f.rows c.loop-i.i) (c.requires.1.1 c.loop-i.i (omega arith)).nine c.if-at-ge264.true x h
+          (λ x h. after_outside v g (row_of c.args.f.rows c.loop-i.i) (held c.args.vram.now c.args.g.now c.args.f.rows c.loop-i.i) (c.requires.1 c.loop-i.i (omega arith)).nine c.if-at-ge264.true x h
           ∙ tile_more v g a.f.rows l.i (omega arith) x),
       omega (arith, c.loop-i-test.true),
     )
 
 pub pixels-eight-requires : goal.pixels-eight-requires
 pixels-eight-requires c =
-    (c.requires.0, (c.requires.1.1 c.loop-i.i (omega arith)).sound)
+    (c.requires.1 c.loop-i.i (omega arith)).sound
 
 pub loop-k-init : goal.loop-k-init
 loop-k-init c =
     let a = c.args in
-    (shows_ext c.loop-i.invariant.0 (λ x h. after_first a.vram.now a.g.now (row_of c.args.f.rows c.loop-i.i) (held c.args.vram.now c.args.g.now c.args.f.rows c.loop-i.i) (c.requires.1.1 c.loop-i.i (omega arith)).nine x), omega arith)
+    (shows_ext c.loop-i.invariant.0 (λ x h. after_first a.vram.now a.g.now (row_of c.args.f.rows c.loop-i.i) (held c.args.vram.now c.args.g.now c.args.f.rows c.loop-i.i) (c.requires.1 c.loop-i.i (omega arith)).nine x), omega arith)
 
 pub loop-k-preserved : goal.loop-k-preserved
 loop-k-preserved c =
@@ -66,7 +66,7 @@ loop-k-preserved c =
     let h = c.loop-k-test.true in
     let pixel : ℕ → ℕ = λ n. packed_if (sprite_pixel_of (sprite_colours g s.tile.palette) s.tile.palette s.tile.z (row_index v Four s.tile n)) in
     let is = (λ i. get_or (c.pixels-eight.ensures i) k 0) ∙ get_d_tab pixel 8 k 0 h in
-    let more = shows_more v g s (held c.args.vram.now c.args.g.now c.args.f.rows c.loop-i.i) (c.requires.1.1 c.loop-i.i (omega arith)).nine k h c.if-at-ge264.false l.invariant.0 is in
+    let more = shows_more v g s (held c.args.vram.now c.args.g.now c.args.f.rows c.loop-i.i) (c.requires.1 c.loop-i.i (omega arith)).nine k h c.if-at-ge264.false l.invariant.0 is in
     (subst (λ (n : ℕ). Shows (after v g s (held c.args.vram.now c.args.g.now c.args.f.rows c.loop-i.i) (k + 1)) (set l.line ((s.tile_x + 8) % 512 + k) n)) (sym c.over.ensures) more, omega (arith, h))
 
 pub loop-i-preserved : goal.loop-i-preserved
@@ -81,9 +81,6 @@ loop-i-preserved c =
           (λ x h. (λ i. after v g (row_of c.args.f.rows c.loop-i.i) (held c.args.vram.now c.args.g.now c.args.f.rows c.loop-i.i) (n i) x) ∙ tile_more v g a.f.rows c.loop-i.i (omega arith) x),
       omega (arith, c.loop-i-test.true),
     )
-
-pub middle-requires : goal.middle-requires
-middle-requires c = c.loop-i.invariant.0.long
 
 pub returns : goal.returns
 returns c =

@@ -1,13 +1,12 @@
-use Prim.Native.Nat.{ℕ, ◌<◌}
-use mathlib.Core.Path.{◌≡◌, refl, sym, ap, ◌∙◌}
-use mathlib.Core.Bool.{Bool, cond, ◌||◌}
+use Prim.Native.Nat.{◌<◌}
+use mathlib.Core.Path.{refl, sym, ap, ◌∙◌}
+use mathlib.Core.Bool.{cond, ◌||◌}
 use mathlib.Core.List.{map}
 use native.Mathlib.Omega.{arith}
 use lib.ListN.{take}
 use Rattle.base_lists.specs.Tab.{tab}
 use Rattle.base_lists.specs.theorems.Tab.{tab_same}
 use Rattle.base_lists.specs.theorems.Changed.{map_tab}
-use Rattle.registers.specs.Bits.{bit_of}
 use Rattle.line_pixels.specs.Pixels.{none}
 use Rattle.packed_pixels.specs.steps.Packed.{packed_if}
 use Rattle.sprite_fetch.specs.Fetch.{line_pixel}
@@ -15,29 +14,11 @@ use Rattle.sprite_fetch.specs.steps.Walk.{drawn_all}
 use Rattle.sprite_fetch.proofs.Shows.{drawn_line_lem}
 use Rattle.sprite_layer.specs.Sprites.{view_of, chosen_sprites, sprite_pixel}
 use Rattle.packed_sprites.proofs.inner.sprites_row.Goals as goal
-use Rattle.packed_sprites.proofs.inner.sprites_row.Goals.{After-draw, Else-bit}
+use Rattle.packed_sprites.proofs.inner.sprites_row.Goals.{After-draw}
 
 -- objsel is a byte
 byte : (c : After-draw) → c.args.r.objsel < 256
 byte c = omega arith
-
--- the sprite line where a test holds
-abbrev shown-1 : (c : After-draw) → Bool → ℕ → ℕ
-shown-1 c lit x = cond lit (packed_if (sprite_pixel c.args.vram.now c.args.g.now c.args.oam.now c.args.r c.args.y x)) 0
-
--- the sprite line where a test holds
-abbrev shown-2 : (c : Else-bit) → Bool → ℕ → ℕ
-shown-2 c lit x = cond lit (packed_if (sprite_pixel c.args.vram.now c.args.g.now c.args.oam.now c.args.r c.args.y x)) 0
-
--- by the bits of tm and ts
-by_bits-1 : (c : After-draw) →
-    tab 256 (shown-1 c (c.bit.result || c.bit-2.result)) ≡ tab 256 (shown-1 c (bit_of c.args.r.tm 4 || bit_of c.args.r.ts 4))
-by_bits-1 c = λ i. tab 256 (shown-1 c (c.bit.ensures i || c.bit-2.ensures i))
-
--- by the bits of tm and ts
-by_bits-2 : (c : Else-bit) →
-    tab 256 (shown-2 c (c.bit.result || c.bit-2.result)) ≡ tab 256 (shown-2 c (bit_of c.args.r.tm 4 || bit_of c.args.r.ts 4))
-by_bits-2 c = λ i. tab 256 (shown-2 c (c.bit.ensures i || c.bit-2.ensures i))
 
 pub returns-then-bit : goal.returns-then-bit
 unfolding sprite_pixel
@@ -49,12 +30,15 @@ returns-then-bit c =
     let chosen = chosen_sprites a.oam.now a.r a.y in
     let view = view_of a.r a.y in
     let line = ap (map packed_if) (drawn_line_lem v g view (byte c) chosen c.fetched_rows.ensures.0) in
+    let lit = sym c.if-bit.true ∙ (λ i. c.bit.ensures i || c.bit-2.ensures i) in
     c.draw.ensures
     ∙ (sym (map_tab packed_if 256 (λ x. drawn_all v g (take t.count t.rows) x none))
     ∙ (line
     ∙ (map_tab packed_if 256 (line_pixel v g view 34 chosen)
-    ∙ ((λ i. tab 256 (shown-1 c (sym c.if-bit.true i))) ∙ by_bits-1 c))))
+    ∙ (λ i. tab 256 (λ x. cond (lit i) (packed_if (sprite_pixel v g a.oam.now a.r a.y x)) 0)))))
 
 pub returns : goal.returns
 returns c =
-    tab_same 256 {b = 0} refl ∙ ((λ i. tab 256 (shown-2 c (sym c.if-bit.false i))) ∙ by_bits-2 c)
+    let a = c.args in
+    let unlit = sym c.if-bit.false ∙ (λ i. c.bit.ensures i || c.bit-2.ensures i) in
+    tab_same 256 {b = 0} refl ∙ (λ i. tab 256 (λ x. cond (unlit i) (packed_if (sprite_pixel a.vram.now a.g.now a.oam.now a.r a.y x)) 0))

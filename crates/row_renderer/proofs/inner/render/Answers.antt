@@ -10,7 +10,7 @@ use Rattle.row_composite.specs.Composite.{colour_at, row_bytes}
 use Rattle.row_composite.specs.steps.Bit15.{row_blind}
 use Rattle.row_composite.proofs.Rows.{blank_row_lem, lit_row}
 use Rattle.packed_blend.specs.steps.Laws.{low16}
-use Rattle.registers.specs.Scene.{scene}
+use Rattle.row_tests.specs.Memory.{lent_scene}
 use Rattle.row_renderer.specs.Renderer.{scene_lines, scene_row}
 use Rattle.row_renderer.proofs.inner.render.Goals as goal
 use Rattle.row_renderer.proofs.inner.render.Goals.{After-slice_known-2-1}
@@ -34,7 +34,7 @@ unfolding scene_row
 returns c =
     let a = c.args in
     let r = a.r in
-    let lines = scene_lines (scene r a.vram.now a.cgram.now a.oam.now) a.y in
+    let lines = scene_lines (lent_scene r a.memory) a.y in
     let low = recoloured_lines low16 lines in
     let lit = sym c.force_blank.ensures ∙ c.if-force_blank.false in
     c.brighten.ensures

@@ -1,7 +1,6 @@
-use Rattle.scene_input.proofs.Reading.{read_end}
-use mathlib.Core.Path.{ap, ◌∙◌}
-use lib.ListN.{take}
+use Rattle.std.proofs.Common.{ap, ◌∙◌, take}
 use Rattle.scene_file.specs.File.{end_tests}
+use Rattle.scene_input.proofs.Reading.{read_end}
 use Rattle.scene_input.proofs.inner.end.Goals as goal
 
 pub returns : goal.returns

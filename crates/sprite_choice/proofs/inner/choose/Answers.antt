@@ -13,7 +13,7 @@ use Rattle.sprite_choice.proofs.inner.choose.Goals as goal
 use Rattle.sprite_choice.proofs.inner.choose.Goals.{After-counting_tiles-tiles, Then-count-eq-MAX_SPRITES, Then-not-in_range}
 
 pub loop-k-init : goal.loop-k-init
-loop-k-init c = (so_far_none _ _ (found_none _ _ _ _ _) c.blank-none.ensures, omega arith)
+loop-k-init c = (so_far_none _ _ (found_none _ _ _ _ _) c.blank-sprites.ensures, omega arith)
 
 -- what `in_range` says of place k of the search
 is-on-1 : (c : After-counting_tiles-tiles) →

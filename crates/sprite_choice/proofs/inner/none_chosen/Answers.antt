@@ -8,4 +8,4 @@ use Rattle.sprite_choice.proofs.inner.none_chosen.Goals as goal
 
 pub returns : goal.returns
 unfolding none_chosen
-returns c = ap (λ (l : List VisibleSprite). record { sprites = l; count = 0; tiles = 0; time_over = false; range_over = false }) (none_is c.blank-none.ensures)
+returns c = ap (λ (l : List VisibleSprite). record { sprites = l; count = 0; tiles = 0; time_over = false; range_over = false }) (none_is c.blank.ensures)

@@ -27,14 +27,14 @@ held v g rows i x = drawn_all v g (take i rows) x none
 pub loop-i-init : goal.loop-i-init
 loop-i-init c =
     let a = c.args in
-    (drawn_none a.vram.now a.cgram.now c.none-none.ensures, omega arith)
+    (drawn_none a.vram.now a.cgram.now c.none-line.ensures, omega arith)
 
 pub bounds-f-i : goal.bounds-f-i
 bounds-f-i c = let whole : length c.args.f.rows ≡ 34 = search (rules, long_field) in omega arith
 
 pub palette-colors-requires : goal.palette-colors-requires
 palette-colors-requires c =
-    (c.requires.0, (c.requires.1.1 c.loop-i.i (omega arith)).sound.palette_in)
+    (omega arith, (c.requires.1 c.loop-i.i (omega arith)).sound.palette_in)
 
 pub loop-k-init : goal.loop-k-init
 loop-k-init c =
@@ -45,11 +45,11 @@ pub loop-k-preserved-then-x-ge256 : goal.loop-k-preserved-then-x-ge256
 loop-k-preserved-then-x-ge256 c =
     let l = c.loop-k in
     let a = c.args in
-    (l.invariant.0 ∙ beyond a.vram.now a.cgram.now (row_of c.args.f.rows c.loop-i.i) (held c.args.vram.now c.args.cgram.now c.args.f.rows c.loop-i.i) l.k (c.requires.1.1 c.loop-i.i (omega arith)).nine c.loop-k-test.true c.if-x-ge256.true, omega arith)
+    (l.invariant.0 ∙ beyond a.vram.now a.cgram.now (row_of c.args.f.rows c.loop-i.i) (held c.args.vram.now c.args.cgram.now c.args.f.rows c.loop-i.i) l.k (c.requires.1 c.loop-i.i (omega arith)).nine c.loop-k-test.true c.if-x-ge256.true, omega arith)
 
 pub index-n-requires : goal.index-n-requires
 index-n-requires c =
-    ((c.requires.1.1 c.loop-i.i (omega arith)).sound, c.loop-k-test.true)
+    ((c.requires.1 c.loop-i.i (omega arith)).sound, c.loop-k-test.true)
 
 pub loop-k-preserved-then-n-eq0 : goal.loop-k-preserved-then-n-eq0
 loop-k-preserved-then-n-eq0 c =
@@ -59,7 +59,7 @@ loop-k-preserved-then-n-eq0 c =
 
 pub pixel-requires : goal.pixel-requires
 pixel-requires c =
-    (rw c.palette-colors.ensures (colours_length c.args.cgram.now (row_of c.args.f.rows c.loop-i.i).tile.palette c.requires.0 (c.requires.1.1 c.loop-i.i (omega arith)).sound.palette_in), c.index-n.ensures.1)
+    (rw c.palette-colors.ensures (colours_length c.args.cgram.now (row_of c.args.f.rows c.loop-i.i).tile.palette (search rules) (c.requires.1 c.loop-i.i (omega arith)).sound.palette_in), c.index-n.ensures.1)
 
 pub loop-k-preserved : goal.loop-k-preserved
 loop-k-preserved c =
@@ -72,7 +72,7 @@ loop-k-preserved c =
     let is = c.pixel.ensures ∙ (λ i. sprite_pixel_of (c.palette-colors.ensures i) s.tile.palette s.tile.z (c.index-n.ensures.0 i)) in
     let opaque : row_index v Four s.tile l.k ≡ 0 → ⊥ = λ z. c.if-n-eq0.false (c.index-n.ensures.0 ∙ z) in
     let h = c.loop-k-test.true in
-    ((λ i. set (l.invariant.0 i) j (is i)) ∙ drawn v g s (held c.args.vram.now c.args.cgram.now c.args.f.rows c.loop-i.i) l.k (c.requires.1.1 c.loop-i.i (omega arith)).nine h c.if-x-ge256.false opaque, omega (arith, h))
+    ((λ i. set (l.invariant.0 i) j (is i)) ∙ drawn v g s (held c.args.vram.now c.args.cgram.now c.args.f.rows c.loop-i.i) l.k (c.requires.1 c.loop-i.i (omega arith)).nine h c.if-x-ge256.false opaque, omega (arith, h))
 
 pub loop-i-preserved : goal.loop-i-preserved
 loop-i-preserved c =

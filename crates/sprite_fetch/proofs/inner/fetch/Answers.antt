@@ -35,7 +35,7 @@ loop-k-init c =
     let a = c.args in
     let l = sprites_of a.chosen.count a.chosen.sprites in
     let e = ap (fetch_order a.view.objsel) (drop_of_length-le l {i = a.chosen.count} (omega arith)) ∙ order_none a.view.objsel in
-    (so_far_none a.view e c.blank-none.ensures, omega arith)
+    (so_far_none a.view e c.blank-rows.ensures, omega arith)
 
 pub bounds-chosen-k : goal.bounds-chosen-k
 bounds-chosen-k c = let whole : length c.args.chosen.sprites ≡ 32 = search (rules, long_field) in omega arith

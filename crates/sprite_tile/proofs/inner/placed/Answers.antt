@@ -11,8 +11,8 @@ pub returns : goal.returns
 unfolding placed_of
 returns c =
     let a = c.args in
-    let x = remainder_of w16 a.s.x 512 c.struct_told-1.given.0.1 c.nine_bits-x9.ensures.0 in
-    let word = c.tile_word-base.ensures ∙ (λ i. tile_word a.s (c.mirror-column.ensures.0 i) (a.line / 8)) in (
+    let x = remainder_of w16 a.s.x 512 c.struct_told-1.given.0.1 c.nine_bits.ensures.0 in
+    let word = c.tile_word.ensures ∙ (λ i. tile_word a.s (c.mirror-column.ensures.0 i) (a.line / 8)) in (
       λ i. record {
         tile_x = (x i + a.t * 8) % 512;
         tile = record {
@@ -20,7 +20,7 @@ returns c =
           row = a.line % 8;
           flip_x = a.s.flip_x;
           palette = a.s.palette;
-          z = c.obj-z.ensures i;
+          z = c.obj.ensures i;
         };
       },
       record { nine = omega arith; sound = record { row_in = omega arith; palette_in = c.requires.0.1 } },

@@ -1,12 +1,14 @@
-use mathlib.Core.Bool.{cond, not}
+use Rattle.std.proofs.Common.{rules}
 use mathlib.Core.Path.{◌∙◌}
-use Prim.Native.Nat.{◌+◌}
-use lib.Dec.{eqb}
+use Rattle.base_lists.specs.theorems.Tab.{tab_ext}
+use Rattle.base_lists.specs.steps.Made.{made}
 use Rattle.tiles_eight.specs.steps.Shades.{shade_direct}
+use Rattle.tiles_eight.proofs.Columns.{index_is}
 use Rattle.tiles_eight.proofs.inner.shaded_direct.Goals as goal
 
 pub returns : goal.returns
-unfolding shade_direct
 returns c =
     let a = c.args in
-    c.pick.ensures ∙ (λ i. cond (not (eqb a.index 0)) (a.head + c.direct_color.ensures i) 0)
+    let t = a.t in
+    made _ c.from_fn.ensures.items (λ i b y q k. search rules)
+    ∙ tab_ext 8 _ _ (λ k h i. shade_direct t.palette a.head (index_is a.vram.now t.base t.row 4 t.flip_x c.words-words.ensures c.turned-cols.ensures.0 k h i))

@@ -1,13 +1,9 @@
-use borrow.Author.Rules.{rules}
-use Rattle.base_lists.specs.steps.Filling.{front_none, front_more, front_all}
+use Rattle.std.proofs.Common.{rules}
+use Rattle.base_lists.specs.steps.Made.{made}
+use Rattle.tiles_eight.proofs.Columns.{column_small}
 use Rattle.tiles_eight.proofs.inner.turned.Goals as goal
 
-pub loop-k-init : goal.loop-k-init
-loop-k-init c = front_none (search rules)
-
-pub loop-k-preserved : goal.loop-k-preserved
-loop-k-preserved c =
-    front_more c.loop-k.invariant c.loop-k-test.true _ c.mirror.ensures.0
-
 pub returns : goal.returns
-returns c = front_all c.loop-k.invariant c.loop-k-test.false
+returns c =
+    let is = made _ c.from_fn.ensures.items (λ i b y q k. search rules) in
+    (is, column_small c.args.flip is)

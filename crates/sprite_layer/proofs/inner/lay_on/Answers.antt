@@ -1,0 +1,27 @@
+use mathlib.Core.Path.{sym, ◌∙◌}
+use borrow.Author.Rules.{rules}
+use Rattle.line_pixels.specs.declared.Lines.{Lines}
+use Rattle.line_laying.specs.Laying.{lay_lines, candidate_in}
+use Rattle.line_laying.specs.theorems.Unlit.{unlit_lays_nothing}
+use Rattle.line_laying.proofs.Screens.{lay_row, neither}
+use Rattle.sprite_layer.specs.Sprites.{sprite_pixel, sprites_shown}
+use Rattle.sprite_layer.proofs.inner.lay_on.Goals as goal
+
+pub returns-then-shown : goal.returns-then-shown
+returns-then-shown c =
+    let a = c.args in
+    let lines : Lines = record { main = a.main.now; sub = a.sub.now } in
+    let pixel = sprite_pixel a.memory.vram.now a.memory.cgram.now a.memory.oam.now a.r a.y in
+    let e = (λ i. lay_lines (c.shown-shown.ensures i) (candidate_in (c.line-line.ensures i)) lines) ∙ lay_row (sprites_shown a.r) pixel lines in
+    record { main = c.lay_few.ensures.main ∙ (λ i. (e i).main); sub = c.lay_few.ensures.sub ∙ (λ i. (e i).sub) }
+
+pub returns-else-shown : goal.returns-else-shown
+returns-else-shown c =
+    let a = c.args in
+    let lines : Lines = record { main = a.main.now; sub = a.sub.now } in
+    let pixel = sprite_pixel a.memory.vram.now a.memory.cgram.now a.memory.oam.now a.r a.y in
+    let unlit = neither _ _ c.if-shown.false in
+    let main = sym (λ i. (c.shown-shown.ensures i).to_main) ∙ unlit.0 in
+    let sub = sym (λ i. (c.shown-shown.ensures i).to_sub) ∙ unlit.1 in
+    let e = sym (unlit_lays_nothing (sprites_shown a.r) pixel lines main sub (search rules) (search rules)) in
+    record { main = λ i. (e i).main; sub = λ i. (e i).sub }
