@@ -44,16 +44,15 @@ pub fn eight(vram: &[u16], g: &[u32; 256], p: BgParams, direct: bool, t: TileRow
     }
 }
 
-// The cells of line py of the map: its pixels from the last multiple of 8 that the scroll has passed, 33
-// characters of them.
-fn cells(vram: &[u16], g: &[u32; 256], p: BgParams, direct: bool, py: usize) -> [u32; 264]
+// Writes the cells of line py of the map: its pixels from the last multiple of 8 that the scroll has
+// passed, 33 characters of them.
+fn cells(out: &mut [u32; 264], vram: &[u16], g: &[u32; 256], p: BgParams, direct: bool, py: usize)
     requires { (background_of p.layer < 4) × (py < extent_of p.h64 p.tile16) }
-    ensures { result ≡ tab 264 (λ i. packed_if (cell_at vram.now g.now p direct py i)) }
+    ensures { out.new ≡ tab 264 (λ i. packed_if (cell_at vram.now g.now p direct py i)) }
 {
     let first = p.scroll_x as usize / 8 * 8;
     let width = extent(p.w64, p.tile16);
     let map_row = map_row(p, py);
-    let mut out = [0; 264];
     for j in 0..33 {
         let t = character_row(vram, p, map_row, (first + j * 8) % width, py);
         let pixels = eight(vram, g, p, direct, t);
@@ -61,15 +60,14 @@ fn cells(vram: &[u16], g: &[u32; 256], p: BgParams, direct: bool, py: usize) -> 
             out[j * 8 + k] = pixels[k];
         }
     }
-    out
 }
 
-// The cells that the columns show, the first at `fine`, without mosaic.
-fn shifted(cells: &[u32; 264], fine: usize) -> [u32; 256]
+// Writes the cells that the columns show, the first at `fine`, without mosaic.
+fn shifted(out: &mut [u32; 256], cells: &[u32; 264], fine: usize)
     requires { fine < 8 }
-    ensures { result ≡ tab 256 (λ x. get_or cells.now (x + fine) 0) }
+    ensures { out.new ≡ tab 256 (λ x. get_or cells.now (x + fine) 0) }
 {
-    std::array::from_fn(|x| cells[x + fine])
+    *out = std::array::from_fn(|x| cells[x + fine]);
 }
 
 // The line that mosaic makes of the cells: each column shows the first of its block. Every block is
@@ -91,43 +89,47 @@ fn blocks(cells: &[u32; 264], fine: usize, block: usize) -> [u32; 272]
     line
 }
 
-// What the columns show of the cells.
-fn columns(cells: &[u32; 264], fine: usize, block: usize) -> [u32; 256]
+// Writes what the columns show of the cells.
+fn columns(out: &mut [u32; 256], cells: &[u32; 264], fine: usize, block: usize)
     requires { (fine < 8) × ((0 < block) × (block ≤ 16)) }
-    ensures { result ≡ tab 256 (λ x. get_or cells.now (x - x % block + fine) 0) }
+    ensures { out.new ≡ tab 256 (λ x. get_or cells.now (x - x % block + fine) 0) }
 {
     if block == 1 {
-        return shifted(cells, fine);
+        shifted(out, cells, fine);
+        return;
     }
     let line = blocks(cells, fine, block);
-    std::array::from_fn(|x| line[x])
+    *out = std::array::from_fn(|x| line[x]);
 }
 
-// What the background has at the columns of row y.
-fn drawn(vram: &[u16], g: &[u32; 256], r: PPURegisters, p: BgParams, y: usize) -> [u32; 256]
+// Writes what the background has at the columns of row y.
+fn drawn(out: &mut [u32; 256], vram: &[u16], g: &[u32; 256], r: PPURegisters, p: BgParams, y: usize)
     requires { BgRowSound p.layer y }
-    ensures { result ≡ tab 256 (λ x. packed_if (bg_pixel vram.now g.now r p y x)) }
+    ensures { out.new ≡ tab 256 (λ x. packed_if (bg_pixel vram.now g.now r p y x)) }
 {
     let py = source_line(r, p, y);
-    let decoded = cells(vram, g, p, r.direct_color(), py);
+    let mut decoded = [0; 264];
+    cells(&mut decoded, vram, g, p, r.direct_color(), py);
     let block = registers_mosaic::inner::block(r, p.mosaic) as usize;
-    columns(&decoded, p.scroll_x as usize % 8, block)
+    columns(out, &decoded, p.scroll_x as usize % 8, block);
 }
 
 // The same of background bg, where a screen lights it, and otherwise nothing.
 pub fn background_row(
+    out: &mut [u32; 256],
     vram: &[u16],
     g: &[u32; 256],
     r: PPURegisters,
     y: usize,
     bg: Background,
-) -> [u32; 256]
+)
     requires { y < 224 }
-    ensures { result ≡ tab 256 (λ x. cond ((params_of r bg.number).to_main || (params_of r bg.number).to_sub) (packed_if (bg_pixel vram.now g.now r (params_of r bg.number) y x)) 0) }
+    ensures { out.new ≡ tab 256 (λ x. cond ((params_of r bg.number).to_main || (params_of r bg.number).to_sub) (packed_if (bg_pixel vram.now g.now r (params_of r bg.number) y x)) 0) }
 {
     let p = bg_params(r, bg);
     if p.to_main | p.to_sub {
-        return drawn(vram, g, r, p, y);
+        drawn(out, vram, g, r, p, y);
+    } else {
+        *out = [0; 256];
     }
-    [0; 256]
 }

@@ -47,18 +47,18 @@ fn over(pixel: u32, held: u32) -> u32
     select(pixel != 0, pixel, held)
 }
 
-// The 256 columns of a line that has eight more to the left of them and eight to the right.
-fn middle(line: &[u32; 272]) -> [u32; 256]
-    ensures { result ≡ tab 256 (λ x. get_or line.now (x + 8) 0) }
+// Writes the 256 columns of a line that has eight more to the left of them and eight to the right.
+fn middle(out: &mut [u32; 256], line: &[u32; 272])
+    ensures { out.new ≡ tab 256 (λ x. get_or line.now (x + 8) 0) }
 {
-    std::array::from_fn(|x| line[x + 8])
+    *out = std::array::from_fn(|x| line[x + 8]);
 }
 
-// The sprite line. A tile that meets the picture is drawn whole: the line has room for the rest
-// of it.
-fn draw(f: Fetched, vram: &[u16], g: &[u32; 256]) -> [u32; 256]
+// Writes the sprite line. A tile that meets the picture is drawn whole: the line has room for the
+// rest of it.
+fn draw(out: &mut [u32; 256], f: Fetched, vram: &[u16], g: &[u32; 256])
     requires { (f.count ≤ 34) × AllSound f.count f.rows }
-    ensures { result ≡ tab 256 (λ x. packed_if (drawn_all vram.now g.now (take f.count f.rows) x none)) }
+    ensures { out.new ≡ tab 256 (λ x. packed_if (drawn_all vram.now g.now (take f.count f.rows) x none)) }
 {
     let mut line = [0; 272];
     for i in 0..f.count {
@@ -72,22 +72,24 @@ fn draw(f: Fetched, vram: &[u16], g: &[u32; 256]) -> [u32; 256]
             line[at + k] = over(eight[k], line[at + k]);
         }
     }
-    middle(&line)
+    middle(out, &line);
 }
 
 // The sprite line, where a screen lights the sprites, and otherwise nothing.
 pub fn sprites_row(
+    out: &mut [u32; 256],
     vram: &[u16],
     g: &[u32; 256],
     oam: &[u8; OAM_SIZE],
     r: PPURegisters,
     y: usize,
-) -> [u32; 256]
+)
     requires { y < 224 }
-    ensures { result ≡ tab 256 (λ x. cond (bit_of r.tm 4 || bit_of r.ts 4) (packed_if (sprites.sprite_pixel vram.now g.now oam.now r y x)) 0) }
+    ensures { out.new ≡ tab 256 (λ x. cond (bit_of r.tm 4 || bit_of r.ts 4) (packed_if (sprites.sprite_pixel vram.now g.now oam.now r y x)) 0) }
 {
     if bit(r.tm, OBJ_LAYER) | bit(r.ts, OBJ_LAYER) {
-        return draw(fetched_rows(oam, r, y), vram, g);
+        draw(out, fetched_rows(oam, r, y), vram, g);
+    } else {
+        *out = [0; 256];
     }
-    [0; 256]
 }

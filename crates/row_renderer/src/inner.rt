@@ -22,18 +22,19 @@ use tiles_eight::inner::wide;
 
 // The row of a layer, packed, of colour memory in wide words: BG1 to BG4 are 0 to 3, the sprites 4.
 fn layer_row(
+    out: &mut [u32; 256],
     memory: Memory<'_>,
     g: &[u32; 256],
     r: PPURegisters,
     y: usize,
     layer: usize,
-) -> [u32; 256]
+)
     requires { y < 224 }
-    ensures { result ≡ tab 256 (layer_row (scene r memory.entry.vram.now g.now memory.entry.oam.now) y layer) }
+    ensures { out.new ≡ tab 256 (layer_row (scene r memory.entry.vram.now g.now memory.entry.oam.now) y layer) }
 {
     match Background::try_from(layer) {
-        Ok(bg) => background_row(memory.vram, g, r, y, bg),
-        Err(_) => sprites_row(memory.vram, g, memory.oam, r, y),
+        Ok(bg) => background_row(out, memory.vram, g, r, y, bg),
+        Err(_) => sprites_row(out, memory.vram, g, memory.oam, r, y),
     }
 }
 
@@ -44,13 +45,12 @@ fn mixed(memory: Memory<'_>, r: PPURegisters, y: usize) -> [u16; 256]
 {
     let back = backdrop(memory.cgram[0]);
     let g = wide(memory.cgram);
-    let rows = [
-        layer_row(memory, &g, r, y, 0),
-        layer_row(memory, &g, r, y, 1),
-        layer_row(memory, &g, r, y, 2),
-        layer_row(memory, &g, r, y, 3),
-        layer_row(memory, &g, r, y, 4),
-    ];
+    let mut rows = [[0; 256]; 5];
+    layer_row(&mut rows[0], memory, &g, r, y, 0);
+    layer_row(&mut rows[1], memory, &g, r, y, 1);
+    layer_row(&mut rows[2], memory, &g, r, y, 2);
+    layer_row(&mut rows[3], memory, &g, r, y, 3);
+    layer_row(&mut rows[4], memory, &g, r, y, 4);
     colors(&rows, back, r)
 }
 

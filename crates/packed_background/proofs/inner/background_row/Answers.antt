@@ -24,8 +24,8 @@ returns-then-p c =
     ∙ ((λ i. tab 256 (λ x. cond (sym c.if-p.true i) (packed_if (bg_pixel a.vram.now a.g.now a.r p.result a.y x)) 0))
     ∙ (λ i. tab 256 (λ x. cond ((p.ensures i).to_main || (p.ensures i).to_sub) (packed_if (bg_pixel a.vram.now a.g.now a.r (p.ensures i) a.y x)) 0)))
 
-pub returns : goal.returns
-returns c =
+pub returns-else-p : goal.returns-else-p
+returns-else-p c =
     let a = c.args in
     let p = c.bg_params-p in
     tab_same 256 {b = 0} refl

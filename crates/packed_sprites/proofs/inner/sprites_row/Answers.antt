@@ -37,8 +37,8 @@ returns-then-bit c =
     ∙ (map_tab packed_if 256 (line_pixel v g view 34 chosen)
     ∙ (λ i. tab 256 (λ x. cond (lit i) (packed_if (sprite_pixel v g a.oam.now a.r a.y x)) 0)))))
 
-pub returns : goal.returns
-returns c =
+pub returns-else-bit : goal.returns-else-bit
+returns-else-bit c =
     let a = c.args in
     let unlit = sym c.if-bit.false ∙ (λ i. c.bit.ensures i || c.bit-2.ensures i) in
     tab_same 256 {b = 0} refl ∙ (λ i. tab 256 (λ x. cond (unlit i) (packed_if (sprite_pixel a.vram.now a.g.now a.oam.now a.r a.y x)) 0))
