@@ -17,7 +17,7 @@ use bg_map::inner::{extent, map_row, source_line};
 use bg_modes::inner::bg_params;
 use bg_tile::inner::{character_row, palette};
 use line_pixels::inner::bg_index;
-use packed_pixels::inner::head;
+use packed_pixels::inner::{from_column, head};
 use registers::PPURegisters;
 use registers::background::Background;
 use tiles::BitDepth;
@@ -62,14 +62,6 @@ fn cells(out: &mut [u32; 264], vram: &[u16], g: &[u32; 256], p: BgParams, direct
     }
 }
 
-// Writes the cells that the columns show, the first at `fine`, without mosaic.
-fn shifted(out: &mut [u32; 256], cells: &[u32; 264], fine: usize)
-    requires { fine < 8 }
-    ensures { out.new ≡ tab 256 (λ x. get_or cells.now (x + fine) 0) }
-{
-    *out = std::array::from_fn(|x| cells[x + fine]);
-}
-
 // The line that mosaic makes of the cells: each column shows the first of its block. Every block is
 // written 16 wide, the largest size; the next one is written over the rest, and 16 columns more than
 // are shown take the end of the last.
@@ -95,11 +87,11 @@ fn columns(out: &mut [u32; 256], cells: &[u32; 264], fine: usize, block: usize)
     ensures { out.new ≡ tab 256 (λ x. get_or cells.now (x - x % block + fine) 0) }
 {
     if block == 1 {
-        shifted(out, cells, fine);
+        from_column(out, cells, fine);
         return;
     }
     let line = blocks(cells, fine, block);
-    *out = std::array::from_fn(|x| line[x]);
+    from_column(out, &line, 0);
 }
 
 // Writes what the background has at the columns of row y.
@@ -114,7 +106,7 @@ fn drawn(out: &mut [u32; 256], vram: &[u16], g: &[u32; 256], r: PPURegisters, p:
     columns(out, &decoded, p.scroll_x as usize % 8, block);
 }
 
-// The same of background bg, where a screen lights it, and otherwise nothing.
+// The same of background bg into an empty row, where a screen lights it, and otherwise nothing.
 pub fn background_row(
     out: &mut [u32; 256],
     vram: &[u16],
@@ -123,13 +115,11 @@ pub fn background_row(
     y: usize,
     bg: Background,
 )
-    requires { y < 224 }
+    requires { (out.old ≡ tab 256 (λ x. 0)) × (y < 224) }
     ensures { out.new ≡ tab 256 (λ x. cond ((params_of r bg.number).to_main || (params_of r bg.number).to_sub) (packed_if (bg_pixel vram.now g.now r (params_of r bg.number) y x)) 0) }
 {
     let p = bg_params(r, bg);
     if p.to_main | p.to_sub {
         drawn(out, vram, g, r, p, y);
-    } else {
-        *out = [0; 256];
     }
 }

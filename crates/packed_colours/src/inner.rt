@@ -36,12 +36,13 @@ fn layer_barred(r: PPURegisters, lit: u8, win: u8, layer: usize) -> [bool; 256]
 fn screen(rows: &[[u32; 256]; 5], back: u32, r: PPURegisters, lit: u8, win: u8) -> [u32; 256]
     ensures { result ≡ tab 256 (screen_at rows.now back r lit win) }
 {
-    let barred = std::array::from_fn(
-        |layer| -> [bool; 256]
-            requires { layer < 5 }
-            ensures { result ≡ tab 256 (layer_barred r lit win layer) }
-        { layer_barred(r, lit, win, layer) },
-    );
+    let barred = [
+        layer_barred(r, lit, win, 0),
+        layer_barred(r, lit, win, 1),
+        layer_barred(r, lit, win, 2),
+        layer_barred(r, lit, win, 3),
+        layer_barred(r, lit, win, 4),
+    ];
     line(back, rows, &barred)
 }
 

@@ -1,5 +1,5 @@
 // What a whole row asks of packed pixels.
-ghost use Rattle.std.specs.Prelude.{◌≡◌, cond, not, ◌<◌};
+ghost use Rattle.std.specs.Prelude.{◌≡◌, cond, not, ◌+◌, ◌<◌, ◌≤◌, get_or};
 ghost use Rattle.base_lists.specs.Tab.{tab};
 ghost use Rattle.line_pixels.specs.Pixels.{backdrop_of};
 ghost use Rattle.line_laying.specs.Laying.{shown_at};
@@ -80,4 +80,13 @@ pub fn line(back: u32, rows: &[[u32; 256]; 5], barred: &[[bool; 256]; 5]) -> [u3
     ensures { result ≡ tab 256 (line_rule back rows.now barred.now) }
 {
     std::array::from_fn(|x| column(back, rows, barred, x))
+}
+
+// Writes a row's 256 columns from a longer line, of which column `from` is the first.
+pub fn from_column<const N: usize>(out: &mut [u32; 256], line: &[u32; N], from: usize)
+    requires { from + 256 ≤ N }
+    ensures { out.new ≡ tab 256 (λ x. get_or line.now (x + from) 0) }
+{
+    let line = &line[..];
+    out.copy_from_slice(&line[from..from + 256]);
 }

@@ -13,7 +13,7 @@ ghost use Rattle.sprite_layer.specs.Sprites as sprites;
 
 use line_pixels::inner::select;
 use oam::OAM_SIZE;
-use packed_pixels::inner::head;
+use packed_pixels::inner::{from_column, head};
 use registers::PPURegisters;
 use registers::constants::OBJ_LAYER;
 use registers::inner::bit;
@@ -47,13 +47,6 @@ fn over(pixel: u32, held: u32) -> u32
     select(pixel != 0, pixel, held)
 }
 
-// Writes the 256 columns of a line that has eight more to the left of them and eight to the right.
-fn middle(out: &mut [u32; 256], line: &[u32; 272])
-    ensures { out.new ≡ tab 256 (λ x. get_or line.now (x + 8) 0) }
-{
-    *out = std::array::from_fn(|x| line[x + 8]);
-}
-
 // Writes the sprite line. A tile that meets the picture is drawn whole: the line has room for the
 // rest of it.
 fn draw(out: &mut [u32; 256], f: Fetched, vram: &[u16], g: &[u32; 256])
@@ -72,7 +65,7 @@ fn draw(out: &mut [u32; 256], f: Fetched, vram: &[u16], g: &[u32; 256])
             line[at + k] = over(eight[k], line[at + k]);
         }
     }
-    middle(out, &line);
+    from_column(out, &line, 8);
 }
 
 // The sprite line, where a screen lights the sprites, and otherwise nothing.

@@ -20,7 +20,8 @@ use row_composite::inner::{black, brighten};
 use row_tests::inner::Memory;
 use tiles_eight::inner::wide;
 
-// The row of a layer, packed, of colour memory in wide words: BG1 to BG4 are 0 to 3, the sprites 4.
+// Writes the row of a layer into an empty row, packed, of colour memory in wide words: BG1 to BG4 are
+// 0 to 3, the sprites 4.
 fn layer_row(
     out: &mut [u32; 256],
     memory: Memory<'_>,
@@ -29,7 +30,7 @@ fn layer_row(
     y: usize,
     layer: usize,
 )
-    requires { y < 224 }
+    requires { (out.old ≡ tab 256 (λ x. 0)) × (y < 224) }
     ensures { out.new ≡ tab 256 (layer_row (scene r memory.entry.vram.now g.now memory.entry.oam.now) y layer) }
 {
     match Background::try_from(layer) {

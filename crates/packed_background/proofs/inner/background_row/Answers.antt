@@ -1,8 +1,7 @@
 use Prim.Native.Nat.{◌<◌}
-use mathlib.Core.Path.{refl, sym, subst, ◌∙◌}
+use mathlib.Core.Path.{sym, subst, ◌∙◌}
 use mathlib.Core.Bool.{cond, ◌||◌}
 use Rattle.base_lists.specs.Tab.{tab}
-use Rattle.base_lists.specs.theorems.Tab.{tab_same}
 use Rattle.packed_pixels.specs.steps.Packed.{packed_if}
 use Rattle.bg_row.specs.Row.{bg_pixel}
 use Rattle.bg_modes.specs.theorems.Own.{own_number}
@@ -13,7 +12,7 @@ use Rattle.packed_background.proofs.inner.background_row.Goals as goal
 pub drawn-requires : goal.drawn-requires
 drawn-requires c = record {
   background = subst (λ (q : BgParams). background_of q.layer < 4) (sym c.bg_params-p.ensures) (own_number c.args.r c.args.bg.number);
-  row = c.requires;
+  row = c.requires.1;
 }
 
 pub returns-then-p : goal.returns-then-p
@@ -28,6 +27,6 @@ pub returns-else-p : goal.returns-else-p
 returns-else-p c =
     let a = c.args in
     let p = c.bg_params-p in
-    tab_same 256 {b = 0} refl
+    c.requires.0
     ∙ ((λ i. tab 256 (λ x. cond (sym c.if-p.false i) (packed_if (bg_pixel a.vram.now a.g.now a.r p.result a.y x)) 0))
     ∙ (λ i. tab 256 (λ x. cond ((p.ensures i).to_main || (p.ensures i).to_sub) (packed_if (bg_pixel a.vram.now a.g.now a.r (p.ensures i) a.y x)) 0)))

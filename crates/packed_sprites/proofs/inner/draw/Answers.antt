@@ -87,5 +87,5 @@ returns c =
     let l = c.loop-i in
     let a = c.args in
     let n : l.i ≡ a.f.count = omega (arith, l.invariant.1, c.loop-i-test.false) in
-    c.middle.ensures
+    c.from_column.ensures
     ∙ tab_ext 256 _ _ (λ x h. l.invariant.0.at x h ∙ (λ i. packed_if (drawn_all a.vram.now a.g.now (take (n i) a.f.rows) x none)))

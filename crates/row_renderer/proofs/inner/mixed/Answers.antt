@@ -1,8 +1,8 @@
 use Prim.Native.Nat.{ℕ}
-use mathlib.Core.Path.{sym, ◌∙◌}
+use mathlib.Core.Path.{refl, sym, ◌∙◌}
 use mathlib.Core.List.{List, [], ◌∷◌}
 use Rattle.base_lists.specs.Tab.{tab}
-use Rattle.base_lists.specs.theorems.Tab.{tab_ext}
+use Rattle.base_lists.specs.theorems.Tab.{tab_ext, tab_same}
 use Rattle.packed_colours.specs.steps.Screens.{colour_of_row}
 use Rattle.registers.specs.Scene.{scene}
 use Rattle.row_renderer.specs.steps.Rows.{layer_row}
@@ -25,3 +25,18 @@ returns c =
     c.colors.ensures
     ∙ ((λ i. tab 256 (colour_of_row (rows i) (c.backdrop-back.ensures i) a.r))
     ∙ tab_ext 256 _ _ (λ x h. colour_is (scene a.r v a.memory.cgram.now o) a.y x h))
+
+pub layer_row-requires : goal.layer_row-requires
+layer_row-requires c = (tab_same 256 refl, c.requires)
+
+pub layer_row-requires-2 : goal.layer_row-requires-2
+layer_row-requires-2 c = (tab_same 256 refl, c.requires)
+
+pub layer_row-requires-3 : goal.layer_row-requires-3
+layer_row-requires-3 c = (tab_same 256 refl, c.requires)
+
+pub layer_row-requires-4 : goal.layer_row-requires-4
+layer_row-requires-4 c = (tab_same 256 refl, c.requires)
+
+pub layer_row-requires-5 : goal.layer_row-requires-5
+layer_row-requires-5 c = (tab_same 256 refl, c.requires)
