@@ -3,7 +3,6 @@ ghost use Rattle.std.specs.Prelude.{◌≡◌, ◌<◌};
 ghost use Rattle.line_pixels.specs.Pixels.{background_of};
 ghost use Rattle.line_laying.specs.Laying.{candidates_of, lay_line, lay_lines};
 ghost use Rattle.bg_row.specs.Row.{bg_pixel};
-ghost use Rattle.bg_row.specs.steps.Row.{BgRowSound};
 ghost use Rattle.bg_layer.specs.Background.{bg_shown_by};
 
 use bg_map::BgParams;
@@ -16,6 +15,7 @@ use line_pixels::{LinePixel, Lines};
 use registers::PPURegisters;
 use registers::background::Background;
 use registers::inner::bit;
+use registers::screen_row::ScreenRow;
 use registers_windows::inner::bg_window;
 
 // Where the background is shown.
@@ -43,10 +43,10 @@ pub fn candidates(
     r: PPURegisters,
     p: BgParams,
     x: usize,
-    y: usize,
+    y: ScreenRow,
 ) -> Candidates
-    requires { BgRowSound p.layer y × (x < 256) }
-    ensures { result ≡ candidates_of (bg_shown_by r p) x (bg_pixel vram.now cgram.now r p y x) }
+    requires { (background_of p.layer < 4) × (x < 256) }
+    ensures { result ≡ candidates_of (bg_shown_by r p) x (bg_pixel vram.now cgram.now r p y.number x) }
 {
     let px = source_column(r, p, x);
     let py = source_line(r, p, y);
@@ -62,11 +62,11 @@ fn lay_on(
     cgram: &[u16; 256],
     r: PPURegisters,
     p: BgParams,
-    y: usize,
+    y: ScreenRow,
 )
-    requires { BgRowSound p.layer y }
-    ensures main { main.new ≡ lay_line (λ x. (candidates_of (bg_shown_by r p) x (bg_pixel vram.now cgram.now r p y x)).main) main.old }
-    ensures sub { sub.new ≡ lay_line (λ x. (candidates_of (bg_shown_by r p) x (bg_pixel vram.now cgram.now r p y x)).sub) sub.old }
+    requires { background_of p.layer < 4 }
+    ensures main { main.new ≡ lay_line (λ x. (candidates_of (bg_shown_by r p) x (bg_pixel vram.now cgram.now r p y.number x)).main) main.old }
+    ensures sub { sub.new ≡ lay_line (λ x. (candidates_of (bg_shown_by r p) x (bg_pixel vram.now cgram.now r p y.number x)).sub) sub.old }
 {
     if p.to_main | p.to_sub {
         let row = bg_row::inner::row(vram, cgram, r, p, y);
@@ -81,10 +81,10 @@ pub fn lay(
     cgram: &[u16; 256],
     r: PPURegisters,
     p: BgParams,
-    y: usize,
+    y: ScreenRow,
 )
-    requires { BgRowSound p.layer y }
-    ensures { lines.new ≡ lay_lines (bg_shown_by r p) (bg_pixel vram.now cgram.now r p y) lines.old }
+    requires { background_of p.layer < 4 }
+    ensures { lines.new ≡ lay_lines (bg_shown_by r p) (bg_pixel vram.now cgram.now r p y.number) lines.old }
 {
     lay_on(&mut lines.main, &mut lines.sub, vram, cgram, r, p, y);
 }

@@ -4,11 +4,11 @@
 
 pub mod inner;
 
-ghost use Rattle.std.specs.Prelude.{◌≡◌, true, ◌&&◌, length, IfOk};
+ghost use Rattle.std.specs.Prelude.{◌≡◌, true, ◌&&◌, ◌<◌, length, IfOk};
 ghost use Rattle.base_refusal.specs.Results.{means};
 ghost use Rattle.base_refusal.specs.steps.Said.{said_of};
 ghost use Rattle.row_tests.specs.Tests.{bg_tests};
-ghost use Rattle.bg_row.specs.steps.Row.{BgRowSound};
+ghost use Rattle.line_pixels.specs.Pixels.{background_of};
 ghost use Rattle.bg_layer.specs.Background.{is_background, bg_candidates_answer, bg_laid_outcome};
 
 use base_refusal::Refusal;
@@ -18,9 +18,11 @@ use line_pixels::inner::bg_index;
 use line_pixels::{Layer, Lines};
 use registers::PPURegisters;
 use registers::constants::{BACKGROUNDS, SCREEN_WIDTH};
+use registers::screen_row::ScreenRow;
 use row_tests::inner::bg_tested;
 
-// The tests of both calls; `column` says that the column is in its range. Colour memory is handed on.
+// The tests of both calls; `column` says that the column is in its range. Colour memory and the row
+// are handed on.
 fn tested<'a>(
     y: usize,
     words: usize,
@@ -28,9 +30,9 @@ fn tested<'a>(
     counter: u8,
     column: bool,
     layer: Layer,
-) -> Result<&'a [u16; 256], Refusal>
+) -> Result<(&'a [u16; 256], ScreenRow), Refusal>
     ensures said { said_of result ≡ bg_tests y words (length cgram.now) counter (column && is_background layer) }
-    ensures held { IfOk result (λ g. (g.now ≡ cgram.now) × (BgRowSound layer y × (column ≡ true))) }
+    ensures held { IfOk result (λ g. (g.0.now ≡ cgram.now) × ((g.1.number ≡ y) × ((background_of layer < 4) × (column ≡ true)))) }
 {
     let background = bg_index(layer) < BACKGROUNDS;
     bg_tested(y, words, cgram, counter, column & background)
@@ -48,7 +50,7 @@ pub fn bg_candidates(
     ensures { means result ≡ bg_candidates_answer vram.now cgram.now r p y x }
 {
     let column = x < SCREEN_WIDTH;
-    let cgram = tested(y, vram.len(), cgram, r.mosaic_vcounter, column, p.layer)?;
+    let (cgram, y) = tested(y, vram.len(), cgram, r.mosaic_vcounter, column, p.layer)?;
     Ok(inner::candidates(vram, cgram, r, p, x, y))
 }
 
@@ -63,7 +65,7 @@ pub fn render_bg_scanline(
 ) -> Result<(), Refusal>
     ensures { record { said = means result; left = lines.new } ≡ bg_laid_outcome vram.now cgram.now r p y lines.old }
 {
-    let cgram = tested(y, vram.len(), cgram, r.mosaic_vcounter, true, p.layer)?;
+    let (cgram, y) = tested(y, vram.len(), cgram, r.mosaic_vcounter, true, p.layer)?;
     inner::lay(lines, vram, cgram, r, p, y);
     Ok(())
 }

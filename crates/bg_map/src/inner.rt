@@ -7,6 +7,7 @@ ghost use Rattle.bg_map.specs.steps.Rows.{map_row_of, entry_in};
 use crate::{BgParams, MapEntry};
 use base_signed::inner::rem_euclid;
 use registers::PPURegisters;
+use registers::screen_row::ScreenRow;
 
 // The tile side.
 fn side(tile16: bool) -> usize
@@ -37,12 +38,11 @@ pub fn source_column(r: PPURegisters, p: BgParams, x: usize) -> usize
 }
 
 // The line of the map that row y of the screen shows.
-pub fn source_line(r: PPURegisters, p: BgParams, y: usize) -> usize
-    requires { y < 224 }
-    ensures { (result ≡ source_line r p y) × (result < extent_of p.h64 p.tile16) }
+pub fn source_line(r: PPURegisters, p: BgParams, y: ScreenRow) -> usize
+    ensures { (result ≡ source_line r p y.number) × (result < extent_of p.h64 p.tile16) }
 {
     let offset = registers_mosaic::inner::voffset(r, p.mosaic) as i32;
-    let line = (y + 1) as i32 - offset + p.scroll_y as i32;
+    let line = (y.number + 1) as i32 - offset + p.scroll_y as i32;
     let height = extent(p.h64, p.tile16);
     rem_euclid(line, height as u32) as usize
 }

@@ -6,7 +6,6 @@ ghost use Rattle.line_pixels.specs.Pixels.{background_of};
 ghost use Rattle.line_laying.specs.Laying.{candidate_in};
 ghost use Rattle.bg_map.specs.Source.{extent_of};
 ghost use Rattle.bg_row.specs.Row.{bg_pixel};
-ghost use Rattle.bg_row.specs.steps.Row.{BgRowSound};
 ghost use Rattle.bg_row.specs.steps.Cells.{cell_at};
 
 use bg_map::BgParams;
@@ -14,6 +13,7 @@ use bg_map::inner::{extent, map_row, source_line};
 use bg_tile::inner::{cell, character_row, is_direct, palette};
 use line_pixels::Candidate;
 use registers::PPURegisters;
+use registers::screen_row::ScreenRow;
 
 // The cells of line py of the map: its pixels from the last multiple of 8 that the scroll has
 // passed, 33 characters of them.
@@ -50,14 +50,9 @@ fn blocks(cells: &[Candidate; 264], fine: usize, block: usize) -> [Candidate; 25
     ensures { result ≡ tab 256 (λ x. candidate_in cells.now (x - x % block + fine)) }
 {
     let mut out = [Candidate::none(); 256];
-    let mut start = 0;
-    while start < 256 {
-        let c = cells[start + fine];
+    for start in (0..256).step_by(block) {
         let end = (start + block).min(256);
-        for x in start..end {
-            out[x] = c;
-        }
-        start = end;
+        out[start..end].fill(cells[start + fine]);
     }
     out
 }
@@ -79,10 +74,10 @@ pub fn row(
     cgram: &[u16; 256],
     r: PPURegisters,
     p: BgParams,
-    y: usize,
+    y: ScreenRow,
 ) -> [Candidate; 256]
-    requires { BgRowSound p.layer y }
-    ensures { result ≡ tab 256 (bg_pixel vram.now cgram.now r p y) }
+    requires { background_of p.layer < 4 }
+    ensures { result ≡ tab 256 (bg_pixel vram.now cgram.now r p y.number) }
 {
     let py = source_line(r, p, y);
     let decoded = cells(vram, cgram, p, r.direct_color(), py);

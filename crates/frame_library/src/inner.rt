@@ -1,6 +1,6 @@
 // What the frame stands on: its header, the counter's walk, and its rows, each handed on as the part
 // of the plate that it is.
-ghost use Rattle.std.specs.Prelude.{◌≡◌, ◌+◌, ◌<◌, length};
+ghost use Rattle.std.specs.Prelude.{◌≡◌, ◌+◌, length};
 ghost use Rattle.base_refusal.specs.Answer.{refused};
 ghost use Rattle.base_refusal.specs.Numbers.{number_of};
 ghost use Rattle.base_refusal.specs.Results.{means};
@@ -14,6 +14,7 @@ use frame_ports::Way;
 use frame_ports::inner::moved;
 use registers::PPURegisters;
 use registers::constants::SCREEN_HEIGHT;
+use registers::screen_row::ScreenRow;
 use row_renderer::inner::render;
 use row_tests::inner::Memory;
 
@@ -46,9 +47,15 @@ pub fn at_counter(registers: PPURegisters, counter: u8) -> PPURegisters
 }
 
 // Draws row y of the frame, and says what the counter is after it.
-pub fn draw_row(row: &mut [u8], memory: Memory<'_>, r: PPURegisters, y: usize, counter: u8) -> u8
-    requires { (y < 224) × ((length row.old ≡ 768) × (counter ≡ counter_at r y)) }
-    ensures { (row.new ≡ frame_row (lent_scene r memory.entry) y) × (result ≡ counter_at r (y + 1)) }
+pub fn draw_row(
+    row: &mut [u8],
+    memory: Memory<'_>,
+    r: PPURegisters,
+    y: ScreenRow,
+    counter: u8,
+) -> u8
+    requires { (length row.old ≡ 768) × (counter ≡ counter_at r y.number) }
+    ensures { (row.new ≡ frame_row (lent_scene r memory.entry) y.number) × (result ≡ counter_at r (y.number + 1)) }
 {
     render(row, memory, at_counter(r, counter), y);
     next_counter(r, counter)
@@ -81,7 +88,7 @@ pub fn walk(row: &mut [u8], memory: Memory<'_>, r: PPURegisters, from: usize) ->
     let mut at = from;
     let mut counter = r.mosaic_vcounter;
     for y in 0..SCREEN_HEIGHT {
-        counter = draw_row(row, memory, r, y, counter);
+        counter = draw_row(row, memory, r, ScreenRow { number: y }, counter);
         let next = hand(row, memory, r, at);
         if next == at {
             return at;

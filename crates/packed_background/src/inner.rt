@@ -8,7 +8,6 @@ ghost use Rattle.tiles_row.specs.steps.Rows.{TileRowSound};
 ghost use Rattle.bg_tile.specs.Tile.{bg_colours, is_eight};
 ghost use Rattle.bg_tile.specs.steps.Characters.{cell_in};
 ghost use Rattle.bg_row.specs.Row.{bg_pixel};
-ghost use Rattle.bg_row.specs.steps.Row.{BgRowSound};
 ghost use Rattle.bg_row.specs.steps.Cells.{cell_at};
 ghost use Rattle.bg_modes.specs.Modes.{params_of};
 
@@ -20,6 +19,7 @@ use line_pixels::inner::bg_index;
 use packed_pixels::inner::{from_column, head};
 use registers::PPURegisters;
 use registers::background::Background;
+use registers::screen_row::ScreenRow;
 use tiles::BitDepth;
 use tiles_eight::inner::{shaded, shaded_direct};
 use tiles_row::TileRow;
@@ -95,9 +95,16 @@ fn columns(out: &mut [u32; 256], cells: &[u32; 264], fine: usize, block: usize)
 }
 
 // Writes what the background has at the columns of row y.
-fn drawn(out: &mut [u32; 256], vram: &[u16], g: &[u32; 256], r: PPURegisters, p: BgParams, y: usize)
-    requires { BgRowSound p.layer y }
-    ensures { out.new ≡ tab 256 (λ x. packed_if (bg_pixel vram.now g.now r p y x)) }
+fn drawn(
+    out: &mut [u32; 256],
+    vram: &[u16],
+    g: &[u32; 256],
+    r: PPURegisters,
+    p: BgParams,
+    y: ScreenRow,
+)
+    requires { background_of p.layer < 4 }
+    ensures { out.new ≡ tab 256 (λ x. packed_if (bg_pixel vram.now g.now r p y.number x)) }
 {
     let py = source_line(r, p, y);
     let mut decoded = [0; 264];
@@ -112,11 +119,11 @@ pub fn background_row(
     vram: &[u16],
     g: &[u32; 256],
     r: PPURegisters,
-    y: usize,
+    y: ScreenRow,
     bg: Background,
 )
-    requires { (out.old ≡ tab 256 (λ x. 0)) × (y < 224) }
-    ensures { out.new ≡ tab 256 (λ x. cond ((params_of r bg.number).to_main || (params_of r bg.number).to_sub) (packed_if (bg_pixel vram.now g.now r (params_of r bg.number) y x)) 0) }
+    requires { out.old ≡ tab 256 (λ x. 0) }
+    ensures { out.new ≡ tab 256 (λ x. cond ((params_of r bg.number).to_main || (params_of r bg.number).to_sub) (packed_if (bg_pixel vram.now g.now r (params_of r bg.number) y.number x)) 0) }
 {
     let p = bg_params(r, bg);
     if p.to_main | p.to_sub {

@@ -17,6 +17,7 @@ use packed_pixels::inner::{from_column, head};
 use registers::PPURegisters;
 use registers::constants::OBJ_LAYER;
 use registers::inner::bit;
+use registers::screen_row::ScreenRow;
 use sprite_fetch::Fetched;
 use sprite_layer::inner::fetched_rows;
 use sprite_tile::inner::palette;
@@ -75,10 +76,9 @@ pub fn sprites_row(
     g: &[u32; 256],
     oam: &[u8; OAM_SIZE],
     r: PPURegisters,
-    y: usize,
+    y: ScreenRow,
 )
-    requires { y < 224 }
-    ensures { out.new ≡ tab 256 (λ x. cond (bit_of r.tm 4 || bit_of r.ts 4) (packed_if (sprites.sprite_pixel vram.now g.now oam.now r y x)) 0) }
+    ensures { out.new ≡ tab 256 (λ x. cond (bit_of r.tm 4 || bit_of r.ts 4) (packed_if (sprites.sprite_pixel vram.now g.now oam.now r y.number x)) 0) }
 {
     if bit(r.tm, OBJ_LAYER) | bit(r.ts, OBJ_LAYER) {
         draw(out, fetched_rows(oam, r, y), vram, g);

@@ -1,1 +1,2 @@
 pub mod Background
+pub mod ScreenRow

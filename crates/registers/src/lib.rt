@@ -7,15 +7,18 @@
 pub mod background;
 pub mod constants;
 pub mod inner;
+pub mod screen_row;
 
 ghost use Rattle.std.specs.Prelude.{◌≡◌};
 ghost use Rattle.base_refusal.specs.Results.{means};
 ghost use Rattle.registers.specs.steps.Background.{IsBackground};
+ghost use Rattle.registers.specs.steps.ScreenRow.{IsScreenRow};
 ghost use Rattle.registers.specs.Screen.{cleared, mode_of, direct_colour_set, blanked, brightness_of, sprite_interlace, layer_bit};
 
 use background::Background;
 use base_refusal::Refusal;
-use constants::{BACKGROUNDS, LAYERS};
+use constants::{BACKGROUNDS, LAYERS, SCREEN_HEIGHT};
+use screen_row::ScreenRow;
 
 // The register values, in the scene file's order; then the mosaic counter (lines left in the
 // mosaic block) and the field (true in an odd frame), which the rules take as inputs.
@@ -64,6 +67,20 @@ impl TryFrom<usize> for Background {
             Ok(Background { number })
         } else {
             Err(Refusal::Argument)
+        }
+    }
+}
+
+impl TryFrom<usize> for ScreenRow {
+    type Error = Refusal;
+
+    ghost try_from_gives = { IsScreenRow };
+
+    fn try_from(number: usize) -> Result<ScreenRow, Refusal> {
+        if number < SCREEN_HEIGHT {
+            Ok(ScreenRow { number })
+        } else {
+            Err(Refusal::Row)
         }
     }
 }

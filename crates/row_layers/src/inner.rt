@@ -12,21 +12,21 @@ use line_laying::Candidates;
 use line_pixels::Lines;
 use registers::PPURegisters;
 use registers::background::Background;
+use registers::screen_row::ScreenRow;
 use row_tests::inner::Memory;
 
 // Lays background bg over both lines.
-fn lay_bg(lines: &mut Lines, memory: Memory<'_>, r: PPURegisters, y: usize, bg: Background)
-    requires { y < 224 }
-    ensures { lines.new ≡ lay_lines (bg_shown_by r (params_of r bg.number)) (bg_pixel memory.entry.vram.now memory.entry.cgram.now r (params_of r bg.number) y) lines.old }
+fn lay_bg(lines: &mut Lines, memory: Memory<'_>, r: PPURegisters, y: ScreenRow, bg: Background)
+    ensures { lines.new ≡ lay_lines (bg_shown_by r (params_of r bg.number)) (bg_pixel memory.entry.vram.now memory.entry.cgram.now r (params_of r bg.number) y.number) lines.old }
 {
     let p = bg_params(r, bg);
     bg_layer::inner::lay(lines, memory.vram, memory.cgram, r, p, y);
 }
 
 // Lays a layer over both lines.
-pub fn lay(lines: &mut Lines, memory: Memory<'_>, r: PPURegisters, y: usize, layer: usize)
-    requires { (y < 224) × (layer < 5) }
-    ensures { lines.new ≡ layered (lent_scene r memory.entry) y layer lines.old }
+pub fn lay(lines: &mut Lines, memory: Memory<'_>, r: PPURegisters, y: ScreenRow, layer: usize)
+    requires { layer < 5 }
+    ensures { lines.new ≡ layered (lent_scene r memory.entry) y.number layer lines.old }
 {
     match Background::try_from(layer) {
         Ok(bg) => lay_bg(lines, memory, r, y, bg),
@@ -39,11 +39,11 @@ pub fn candidates(
     memory: Memory<'_>,
     r: PPURegisters,
     x: usize,
-    y: usize,
+    y: ScreenRow,
     layer: usize,
 ) -> Candidates
-    requires { (y < 224) × ((x < 256) × (layer < 5)) }
-    ensures { result ≡ layer_candidates (lent_scene r memory.entry) y layer x }
+    requires { (x < 256) × (layer < 5) }
+    ensures { result ≡ layer_candidates (lent_scene r memory.entry) y.number layer x }
 {
     match Background::try_from(layer) {
         Ok(bg) => {

@@ -40,7 +40,7 @@ pub fn render_layer(
     ensures { record { said = means result; left = lines.new } ≡ layer_outcome (scene r vram.now cgram.now oam.now) y layer lines.old }
 {
     let in_range = layer < LAYERS;
-    let memory = layer_tested(y, vram, cgram, oam, r.mosaic_vcounter, in_range)?;
+    let (memory, y) = layer_tested(y, vram, cgram, oam, r.mosaic_vcounter, in_range)?;
     inner::lay(lines, memory, r, y, layer);
     Ok(())
 }
@@ -58,6 +58,6 @@ pub fn layer_candidates(
     ensures { means result ≡ layer_candidates_answer (scene r vram.now cgram.now oam.now) y layer x }
 {
     let in_range = (x < SCREEN_WIDTH) & (layer < LAYERS);
-    let memory = layer_tested(y, vram, cgram, oam, r.mosaic_vcounter, in_range)?;
+    let (memory, y) = layer_tested(y, vram, cgram, oam, r.mosaic_vcounter, in_range)?;
     Ok(inner::candidates(memory, r, x, y, layer))
 }

@@ -1,6 +1,6 @@
 // What the public calls of this crate stand on. A whole row is drawn over packed pixels; step by step,
 // over lines of pixels, the layers are laid in the crate row_layers.
-ghost use Rattle.std.specs.Prelude.{◌≡◌, ◌<◌, length};
+ghost use Rattle.std.specs.Prelude.{◌≡◌, length};
 ghost use Rattle.base_lists.specs.Tab.{tab};
 ghost use Rattle.line_pixels.specs.steps.Recoloured.{recoloured_lines};
 ghost use Rattle.row_tests.specs.Memory.{lent_scene};
@@ -16,6 +16,7 @@ use packed_pixels::inner::backdrop;
 use packed_sprites::inner::sprites_row;
 use registers::PPURegisters;
 use registers::background::Background;
+use registers::screen_row::ScreenRow;
 use row_composite::inner::{black, brighten};
 use row_tests::inner::Memory;
 use tiles_eight::inner::wide;
@@ -27,11 +28,11 @@ fn layer_row(
     memory: Memory<'_>,
     g: &[u32; 256],
     r: PPURegisters,
-    y: usize,
+    y: ScreenRow,
     layer: usize,
 )
-    requires { (out.old ≡ tab 256 (λ x. 0)) × (y < 224) }
-    ensures { out.new ≡ tab 256 (layer_row (scene r memory.entry.vram.now g.now memory.entry.oam.now) y layer) }
+    requires { out.old ≡ tab 256 (λ x. 0) }
+    ensures { out.new ≡ tab 256 (layer_row (scene r memory.entry.vram.now g.now memory.entry.oam.now) y.number layer) }
 {
     match Background::try_from(layer) {
         Ok(bg) => background_row(out, memory.vram, g, r, y, bg),
@@ -40,9 +41,8 @@ fn layer_row(
 }
 
 // The colours of row y before brightness: the rows of the five layers, and colour math.
-fn mixed(memory: Memory<'_>, r: PPURegisters, y: usize) -> [u16; 256]
-    requires { y < 224 }
-    ensures { result ≡ tab 256 (colour_at r (recoloured_lines low16 (scene_lines (lent_scene r memory.entry) y))) }
+fn mixed(memory: Memory<'_>, r: PPURegisters, y: ScreenRow) -> [u16; 256]
+    ensures { result ≡ tab 256 (colour_at r (recoloured_lines low16 (scene_lines (lent_scene r memory.entry) y.number))) }
 {
     let back = backdrop(memory.cgram[0]);
     let g = wide(memory.cgram);
@@ -56,9 +56,9 @@ fn mixed(memory: Memory<'_>, r: PPURegisters, y: usize) -> [u16; 256]
 }
 
 // Draws row y into a lent row. Under forced blank nothing is laid.
-pub fn render(row: &mut [u8], memory: Memory<'_>, r: PPURegisters, y: usize)
-    requires { (y < 224) × (length row.old ≡ 768) }
-    ensures { row.new ≡ scene_row (lent_scene r memory.entry) y }
+pub fn render(row: &mut [u8], memory: Memory<'_>, r: PPURegisters, y: ScreenRow)
+    requires { length row.old ≡ 768 }
+    ensures { row.new ≡ scene_row (lent_scene r memory.entry) y.number }
 {
     if r.force_blank() {
         black(row);

@@ -29,7 +29,7 @@ pub fn render_scanline(
     ensures { record { said = means result; left = row.new } ≡ row_outcome (scene r vram.now cgram.now oam.now) y row.old }
 {
     let lent = row.len() == ROW_BYTES;
-    let memory = draw_tested(y, vram, cgram, oam, lent, r.mosaic_vcounter)?;
+    let (memory, y) = draw_tested(y, vram, cgram, oam, lent, r.mosaic_vcounter)?;
     inner::render(row, memory, r, y);
     Ok(())
 }
@@ -46,8 +46,8 @@ pub fn render_into_picture(
     ensures { record { said = means result; left = picture.new } ≡ picture_outcome (scene r vram.now cgram.now oam.now) y picture.old }
 {
     let lent = picture.len() == PICTURE_BYTES;
-    let memory = draw_tested(y, vram, cgram, oam, lent, r.mosaic_vcounter)?;
-    let start = y * ROW_BYTES;
+    let (memory, y) = draw_tested(y, vram, cgram, oam, lent, r.mosaic_vcounter)?;
+    let start = y.number * ROW_BYTES;
     let end = start + ROW_BYTES;
     inner::render(&mut picture[start..end], memory, r, y);
     Ok(())

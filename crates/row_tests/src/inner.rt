@@ -1,6 +1,6 @@
 // Each test, then the tests of each kind of call. A call whose tests are passed has its memories with
-// their lengths in the type, and its row's number in range.
-ghost use Rattle.std.specs.Prelude.{◌≡◌, true, ◌<◌, length, IfOk};
+// their lengths in the type, and its row with its range.
+ghost use Rattle.std.specs.Prelude.{◌≡◌, true, length, IfOk};
 ghost use Rattle.base_refusal.specs.Answer.{◌and_then◌};
 ghost use Rattle.base_refusal.specs.Numbers.{number_of};
 ghost use Rattle.base_refusal.specs.Results.{means, Passed};
@@ -9,7 +9,8 @@ ghost use Rattle.row_tests.specs.Tests.{test, row_number_test, oam_test, counter
 ghost use Rattle.row_tests.specs.steps.Memory.{Lends};
 
 use base_refusal::Refusal;
-use registers::constants::{LARGEST_COUNTER, SCREEN_HEIGHT};
+use registers::constants::LARGEST_COUNTER;
+use registers::screen_row::ScreenRow;
 use tiles::inner::VRAM_WORDS;
 
 // The lent memories that a row is drawn from. VRAM is read at addresses taken mod its length.
@@ -27,11 +28,12 @@ fn test(holds: bool, n: Refusal) -> Result<(), Refusal>
     if holds { Ok(()) } else { Err(n) }
 }
 
-// The row's number.
-fn number_tested(y: usize) -> Result<(), Refusal>
-    ensures { (means result ≡ row_number_test y) × (Passed result → y < 224) }
+// The row's number. The row is handed on.
+fn number_tested(y: usize) -> Result<ScreenRow, Refusal>
+    ensures said { said_of result ≡ row_number_test y }
+    ensures held { IfOk result (λ row. row.number ≡ y) }
 {
-    test(y < SCREEN_HEIGHT, Refusal::Row)
+    ScreenRow::try_from(y)
 }
 
 // The mosaic counter.
@@ -41,15 +43,19 @@ fn counter_tested(counter: u8) -> Result<(), Refusal>
     test(counter <= LARGEST_COUNTER, Refusal::Counter)
 }
 
-// The row, VRAM and colour memory, which is handed on.
-fn base_tested<'a>(y: usize, words: usize, cgram: &'a [u16]) -> Result<&'a [u16; 256], Refusal>
+// The row, VRAM and colour memory. Colour memory and the row are handed on.
+fn base_tested<'a>(
+    y: usize,
+    words: usize,
+    cgram: &'a [u16],
+) -> Result<(&'a [u16; 256], ScreenRow), Refusal>
     ensures said { said_of result ≡ base_tests y words (length cgram.now) }
-    ensures held { IfOk result (λ g. (g.now ≡ cgram.now) × (y < 224)) }
+    ensures held { IfOk result (λ g. (g.0.now ≡ cgram.now) × (g.1.number ≡ y)) }
 {
-    number_tested(y)?;
+    let y = number_tested(y)?;
     test(words == VRAM_WORDS, Refusal::Vram)?;
     match <&[u16; 256]>::try_from(cgram) {
-        Ok(colours) => Ok(colours),
+        Ok(colours) => Ok((colours, y)),
         Err(_) => Err(Refusal::Colour),
     }
 }
@@ -65,19 +71,19 @@ fn oam_tested<'a>(oam: &'a [u8]) -> Result<&'a [u8; 544], Refusal>
     }
 }
 
-// The row and the three memories.
+// The row and the three memories. They are handed on.
 fn row_tested<'a>(
     y: usize,
     vram: &'a [u16],
     cgram: &'a [u16],
     oam: &'a [u8],
-) -> Result<Memory<'a>, Refusal>
+) -> Result<(Memory<'a>, ScreenRow), Refusal>
     ensures said { said_of result ≡ row_tests y (length vram.now) (length cgram.now) (length oam.now) }
-    ensures held { IfOk result (λ m. Lends m vram.now cgram.now oam.now × (y < 224)) }
+    ensures held { IfOk result (λ m. Lends m.0 vram.now cgram.now oam.now × (m.1.number ≡ y)) }
 {
-    let cgram = base_tested(y, vram.len(), cgram)?;
+    let (cgram, y) = base_tested(y, vram.len(), cgram)?;
     let oam = oam_tested(oam)?;
-    Ok(Memory { vram, cgram, oam })
+    Ok((Memory { vram, cgram, oam }, y))
 }
 
 // The counter, and the other arguments, of which `in_range` says that they are in their ranges.
@@ -95,13 +101,13 @@ pub fn bg_tested<'a>(
     cgram: &'a [u16],
     counter: u8,
     in_range: bool,
-) -> Result<&'a [u16; 256], Refusal>
+) -> Result<(&'a [u16; 256], ScreenRow), Refusal>
     ensures said { said_of result ≡ bg_tests y words (length cgram.now) counter in_range }
-    ensures held { IfOk result (λ g. (g.now ≡ cgram.now) × ((y < 224) × (in_range ≡ true))) }
+    ensures held { IfOk result (λ g. (g.0.now ≡ cgram.now) × ((g.1.number ≡ y) × (in_range ≡ true))) }
 {
-    let cgram = base_tested(y, words, cgram)?;
+    let (cgram, y) = base_tested(y, words, cgram)?;
     last_tested(counter, in_range)?;
-    Ok(cgram)
+    Ok((cgram, y))
 }
 
 // Of the calls of the sprites, and of any layer.
@@ -112,13 +118,13 @@ pub fn layer_tested<'a>(
     oam: &'a [u8],
     counter: u8,
     in_range: bool,
-) -> Result<Memory<'a>, Refusal>
+) -> Result<(Memory<'a>, ScreenRow), Refusal>
     ensures said { said_of result ≡ (row_tests y (length vram.now) (length cgram.now) (length oam.now) and_then last_tests counter in_range) }
-    ensures held { IfOk result (λ m. Lends m vram.now cgram.now oam.now × ((y < 224) × (in_range ≡ true))) }
+    ensures held { IfOk result (λ m. Lends m.0 vram.now cgram.now oam.now × ((m.1.number ≡ y) × (in_range ≡ true))) }
 {
-    let memory = row_tested(y, vram, cgram, oam)?;
+    let (memory, y) = row_tested(y, vram, cgram, oam)?;
     last_tested(counter, in_range)?;
-    Ok(memory)
+    Ok((memory, y))
 }
 
 // Of both lines that are written into a lent row; `lent` says that it has its length.
@@ -137,29 +143,32 @@ pub fn draw_tested<'a>(
     oam: &'a [u8],
     lent: bool,
     counter: u8,
-) -> Result<Memory<'a>, Refusal>
+) -> Result<(Memory<'a>, ScreenRow), Refusal>
     ensures said { said_of result ≡ (row_tests y (length vram.now) (length cgram.now) (length oam.now) and_then lent_tests lent counter) }
-    ensures held { IfOk result (λ m. Lends m vram.now cgram.now oam.now × ((y < 224) × (lent ≡ true))) }
+    ensures held { IfOk result (λ m. Lends m.0 vram.now cgram.now oam.now × ((m.1.number ≡ y) × (lent ≡ true))) }
 {
-    let memory = row_tested(y, vram, cgram, oam)?;
+    let (memory, y) = row_tested(y, vram, cgram, oam)?;
     lent_tested(lent, counter)?;
-    Ok(memory)
+    Ok((memory, y))
 }
 
 // Of the choice of a row's sprites.
-pub fn choice_tested<'a>(y: usize, oam: &'a [u8]) -> Result<&'a [u8; 544], Refusal>
+pub fn choice_tested<'a>(y: usize, oam: &'a [u8]) -> Result<(&'a [u8; 544], ScreenRow), Refusal>
     ensures said { said_of result ≡ choice_tests y (length oam.now) }
-    ensures held { IfOk result (λ o. (o.now ≡ oam.now) × (y < 224)) }
+    ensures held { IfOk result (λ o. (o.0.now ≡ oam.now) × (o.1.number ≡ y)) }
 {
-    number_tested(y)?;
-    oam_tested(oam)
+    let y = number_tested(y)?;
+    let oam = oam_tested(oam)?;
+    Ok((oam, y))
 }
 
 // Of a row of lent pictures that is handed back.
-pub fn part_tested(y: usize, lent: bool, in_range: bool) -> Result<(), Refusal>
-    ensures { (means result ≡ part_tests y lent in_range) × (Passed result → (y < 224) × ((lent ≡ true) × (in_range ≡ true))) }
+pub fn part_tested(y: usize, lent: bool, in_range: bool) -> Result<ScreenRow, Refusal>
+    ensures said { said_of result ≡ part_tests y lent in_range }
+    ensures held { IfOk result (λ row. (row.number ≡ y) × ((lent ≡ true) × (in_range ≡ true))) }
 {
-    number_tested(y)?;
+    let y = number_tested(y)?;
     test(lent, Refusal::Lent)?;
-    test(in_range, Refusal::Argument)
+    test(in_range, Refusal::Argument)?;
+    Ok(y)
 }

@@ -40,6 +40,6 @@ pub fn eval_sprites_for_scanline(
 ) -> Result<Chosen, Refusal>
     ensures { outcome_of none_chosen result ≡ choice_outcome oam.now y objsel oamadd obj_interlace }
 {
-    let oam = choice_tested(y, oam)?;
-    Ok(inner::choose(oam, y as u8, objsel, oamadd, obj_interlace))
+    let (oam, y) = choice_tested(y, oam)?;
+    Ok(inner::choose(oam, y.number as u8, objsel, oamadd, obj_interlace))
 }

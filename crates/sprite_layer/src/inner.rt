@@ -13,6 +13,7 @@ use oam::OAM_SIZE;
 use registers::PPURegisters;
 use registers::constants::OBJ_LAYER;
 use registers::inner::bit;
+use registers::screen_row::ScreenRow;
 use registers_windows::inner::obj_window;
 use row_tests::inner::Memory;
 use sprite_choice::inner::choose;
@@ -21,22 +22,20 @@ use sprite_fetch::inner::{draw, fetch};
 use sprite_tile::View;
 
 // What decides how row y shows sprites.
-fn view(r: PPURegisters, y: usize) -> View
-    requires { y < 224 }
-    ensures { result ≡ view_of r y }
+fn view(r: PPURegisters, y: ScreenRow) -> View
+    ensures { result ≡ view_of r y.number }
 {
     View {
         objsel: r.objsel,
-        row: y as u8,
+        row: y.number as u8,
         obj_interlace: r.obj_interlace(),
         field: r.field,
     }
 }
 
 // The fetched rows of tiles that row y shows: the sprites are chosen, and their tiles fetched.
-pub fn fetched_rows(oam: &[u8; OAM_SIZE], r: PPURegisters, y: usize) -> Fetched
-    requires { y < 224 }
-    ensures { (result ≡ fetched_list (view_of r y) (fetched 34 r.objsel (chosen_sprites oam.now r y))) × ((result.count ≤ 34) × AllSound result.count result.rows) }
+pub fn fetched_rows(oam: &[u8; OAM_SIZE], r: PPURegisters, y: ScreenRow) -> Fetched
+    ensures { (result ≡ fetched_list (view_of r y.number) (fetched 34 r.objsel (chosen_sprites oam.now r y.number))) × ((result.count ≤ 34) × AllSound result.count result.rows) }
 {
     let view = view(r, y);
     let chosen = choose(oam, view.row, view.objsel, r.oamadd, view.obj_interlace);
@@ -44,9 +43,8 @@ pub fn fetched_rows(oam: &[u8; OAM_SIZE], r: PPURegisters, y: usize) -> Fetched
 }
 
 // The sprite line: the fetched rows are drawn.
-pub fn line(memory: Memory<'_>, r: PPURegisters, y: usize) -> [Candidate; 256]
-    requires { y < 224 }
-    ensures { result ≡ tab 256 (sprite_pixel memory.entry.vram.now memory.entry.cgram.now memory.entry.oam.now r y) }
+pub fn line(memory: Memory<'_>, r: PPURegisters, y: ScreenRow) -> [Candidate; 256]
+    ensures { result ≡ tab 256 (sprite_pixel memory.entry.vram.now memory.entry.cgram.now memory.entry.oam.now r y.number) }
 {
     draw(fetched_rows(memory.oam, r, y), memory.vram, memory.cgram)
 }
@@ -66,9 +64,9 @@ fn shown(r: PPURegisters) -> Shown
 }
 
 // The candidates at column x of row y.
-pub fn candidates(memory: Memory<'_>, r: PPURegisters, x: usize, y: usize) -> Candidates
-    requires { (y < 224) × (x < 256) }
-    ensures { result ≡ candidates_of (sprites_shown r) x (sprite_pixel memory.entry.vram.now memory.entry.cgram.now memory.entry.oam.now r y x) }
+pub fn candidates(memory: Memory<'_>, r: PPURegisters, x: usize, y: ScreenRow) -> Candidates
+    requires { x < 256 }
+    ensures { result ≡ candidates_of (sprites_shown r) x (sprite_pixel memory.entry.vram.now memory.entry.cgram.now memory.entry.oam.now r y.number x) }
 {
     let line = line(memory, r, y);
     on_screens(line[x], shown(r), x)
@@ -80,11 +78,10 @@ fn lay_on(
     sub: &mut [LinePixel; 256],
     memory: Memory<'_>,
     r: PPURegisters,
-    y: usize,
+    y: ScreenRow,
 )
-    requires { y < 224 }
-    ensures main { main.new ≡ lay_line (λ x. (candidates_of (sprites_shown r) x (sprite_pixel memory.entry.vram.now memory.entry.cgram.now memory.entry.oam.now r y x)).main) main.old }
-    ensures sub { sub.new ≡ lay_line (λ x. (candidates_of (sprites_shown r) x (sprite_pixel memory.entry.vram.now memory.entry.cgram.now memory.entry.oam.now r y x)).sub) sub.old }
+    ensures main { main.new ≡ lay_line (λ x. (candidates_of (sprites_shown r) x (sprite_pixel memory.entry.vram.now memory.entry.cgram.now memory.entry.oam.now r y.number x)).main) main.old }
+    ensures sub { sub.new ≡ lay_line (λ x. (candidates_of (sprites_shown r) x (sprite_pixel memory.entry.vram.now memory.entry.cgram.now memory.entry.oam.now r y.number x)).sub) sub.old }
 {
     let shown = shown(r);
     if shown.to_main | shown.to_sub {
@@ -94,9 +91,8 @@ fn lay_on(
 }
 
 // Lays the sprites over both lines.
-pub fn lay(lines: &mut Lines, memory: Memory<'_>, r: PPURegisters, y: usize)
-    requires { y < 224 }
-    ensures { lines.new ≡ lay_lines (sprites_shown r) (sprite_pixel memory.entry.vram.now memory.entry.cgram.now memory.entry.oam.now r y) lines.old }
+pub fn lay(lines: &mut Lines, memory: Memory<'_>, r: PPURegisters, y: ScreenRow)
+    ensures { lines.new ≡ lay_lines (sprites_shown r) (sprite_pixel memory.entry.vram.now memory.entry.cgram.now memory.entry.oam.now r y.number) lines.old }
 {
     lay_on(&mut lines.main, &mut lines.sub, memory, r, y);
 }

@@ -26,7 +26,7 @@ pub fn sprite_line(
 ) -> Result<[Candidate; 256], Refusal>
     ensures { outcome_of empty_line result ≡ sprite_line_outcome vram.now cgram.now oam.now r y }
 {
-    let memory = layer_tested(y, vram, cgram, oam, r.mosaic_vcounter, true)?;
+    let (memory, y) = layer_tested(y, vram, cgram, oam, r.mosaic_vcounter, true)?;
     Ok(inner::line(memory, r, y))
 }
 
@@ -42,7 +42,7 @@ pub fn sprite_candidates(
     ensures { means result ≡ sprite_candidates_answer vram.now cgram.now oam.now r y x }
 {
     let column = x < SCREEN_WIDTH;
-    let memory = layer_tested(y, vram, cgram, oam, r.mosaic_vcounter, column)?;
+    let (memory, y) = layer_tested(y, vram, cgram, oam, r.mosaic_vcounter, column)?;
     Ok(inner::candidates(memory, r, x, y))
 }
 
@@ -57,7 +57,7 @@ pub fn render_sprites(
 ) -> Result<(), Refusal>
     ensures { record { said = means result; left = lines.new } ≡ sprites_laid_outcome vram.now cgram.now oam.now r y lines.old }
 {
-    let memory = layer_tested(y, vram, cgram, oam, r.mosaic_vcounter, true)?;
+    let (memory, y) = layer_tested(y, vram, cgram, oam, r.mosaic_vcounter, true)?;
     inner::lay(lines, memory, r, y);
     Ok(())
 }

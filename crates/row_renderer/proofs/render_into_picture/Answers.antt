@@ -13,11 +13,13 @@ pub returns : goal.returns
 unfolding with_row
 returns c =
     let a = c.args in
-    let start = a.y * 768 in
+    let start = c.in_ok-memory.y.number * 768 in
     let p = a.picture.now in
     let told = c.in_ok-memory.ensures in
     let lends = told.held.0 in
-    let row = c.render.ensures ∙ (λ i. scene_row (scene a.r (lends.vram_is i) (lends.cgram_is i) (lends.oam_is i)) a.y) in
-    let drawn = with_row p a.y (scene_row (scene a.r a.vram.now a.cgram.now a.oam.now) a.y) in
+    let same = told.held.1.0 in
+    let row = c.render.ensures ∙ (λ i. scene_row (scene a.r (lends.vram_is i) (lends.cgram_is i) (lends.oam_is i)) (same i)) in
+    let bytes = scene_row (scene a.r a.vram.now a.cgram.now a.oam.now) a.y in
     (λ i. record { said = value tt; left = take start p ++ (row i ++ Post-is start (start + 768) p (omega arith) i) })
-    ∙ ap (λ (t : Answer Unit). outcome t tt drawn p) told.said
+    ∙ ((λ i. record { said = value tt; left = with_row p (same i) bytes })
+    ∙ ap (λ (t : Answer Unit). outcome t tt (with_row p a.y bytes) p) told.said)

@@ -14,12 +14,12 @@ overflow_cast-offset c = widens c.voffset-offset.result c.voffset-offset.type_in
 pub overflow_sub-line : goal.overflow_sub-line
 overflow_sub-line c =
     let a = c.args in
-    less_fits (a.y + 1) 0 c.voffset-offset.result (omega arith) (omega arith) c.voffset-offset.type_inv
+    less_fits (a.y.number + 1) 0 c.voffset-offset.result (omega arith) (omega arith) c.voffset-offset.type_inv
 
 pub overflow_add-line-2 : goal.overflow_add-line-2
 overflow_add-line-2 c =
     let a = c.args in
-    scrolled_fits (a.y + 1) a.p.scroll_y c.voffset-offset.result (omega arith) (omega arith) c.voffset-offset.type_inv
+    scrolled_fits (a.y.number + 1) a.p.scroll_y c.voffset-offset.result (omega arith) (omega arith) c.voffset-offset.type_inv
 
 pub returns : goal.returns
 unfolding source_line
@@ -27,7 +27,7 @@ returns c =
     let h = c.extent-height in
     let a = c.args in
     let line =
-    line_of (a.y + 1) a.p.scroll_y c.voffset-offset.result (omega arith) (omega arith) c.voffset-offset.type_inv h.result
+    line_of (a.y.number + 1) a.p.scroll_y c.voffset-offset.result (omega arith) (omega arith) c.voffset-offset.type_inv h.result
     c.rem_euclid.ensures.0
-    ∙ (λ i. remainder ((pos (a.y + 1) -ℤ c.voffset-offset.ensures i) +ℤ pos a.p.scroll_y) (h.ensures.0 i)) in
+    ∙ (λ i. remainder ((pos (a.y.number + 1) -ℤ c.voffset-offset.ensures i) +ℤ pos a.p.scroll_y) (h.ensures.0 i)) in
     (line, subst (λ (k : ℕ). c.rem_euclid.result < k) h.ensures.0 c.rem_euclid.ensures.1)

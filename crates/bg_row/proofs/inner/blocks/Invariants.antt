@@ -1,17 +1,8 @@
 use mathlib.Core.Path.{◌≡◌}
 use Rattle.base_lists.specs.steps.Filling.{Front}
 use Rattle.line_laying.specs.Laying.{candidate_in}
-use Prim.Native.Nat.{◌+◌, ◌-◌, ◌%◌, ◌<◌, ◌≤◌}
+use Prim.Native.Nat.{◌+◌, ◌-◌, ◌%◌}
 use Rattle.bg_row.proofs.inner.blocks.Given as goal
 
-abbrev pub invariant-loop-x : goal.invariant-loop-x
-invariant-loop-x l = Front 256 (λ k. candidate_in l.cells (k - k % l.block + l.fine)) l.out l.x × ((l.start ≤ l.x) × (l.x ≤ l.end))
-
-abbrev pub decreases-loop-x : goal.decreases-loop-x
-decreases-loop-x l = l.end - l.x
-
 abbrev pub invariant-loop-start : goal.invariant-loop-start
-invariant-loop-start l = Front 256 (λ k. candidate_in l.cells (k - k % l.block + l.fine)) l.out l.start × ((l.start < 256) → l.start % l.block ≡ 0)
-
-abbrev pub decreases-loop-start : goal.decreases-loop-start
-decreases-loop-start l = 256 - l.start
+invariant-loop-start l = Front 256 (λ k. candidate_in l.cells (k - k % l.block + l.fine)) l.out l.start × (l.start % l.block ≡ 0)

@@ -23,4 +23,4 @@ returns c =
     (λ x h. (λ i. candidate_in (c.cells-decoded.ensures i) (x - x % c.block-block.ensures.0 i + fine))
     ∙ (get_d_tab (cell_at v g p c.direct_color.result c.source_line-py.result) 264 (x - x % size + fine) none (within_cells size x fine h (omega arith))
     ∙ ((λ i. cell_at v g p (c.direct_color.ensures i) (c.source_line-py.ensures.0 i) (x - x % size + fine))
-    ∙ cell_shown v g a.r p a.y x)))
+    ∙ cell_shown v g a.r p a.y.number x)))

@@ -8,11 +8,6 @@ use Rattle.frame_library.proofs.inner.walk.Goals as goal
 pub loop-y-init : goal.loop-y-init
 loop-y-init c = let p = c.requires in walked_none _ p.0 p.1
 
-pub draw_row-counter-requires : goal.draw_row-counter-requires
-draw_row-counter-requires c =
-    let i = c.loop-y.invariant in
-    (c.loop-y-test.true, (i.long, i.walked))
-
 pub hand-next-requires : goal.hand-next-requires
 hand-next-requires c =
     row_part_lem _ _ _ c.loop-y-test.true c.loop-y.invariant.come c.draw_row-counter.ensures.0

@@ -10,23 +10,21 @@ use Rattle.bg_map.specs.declared.BgParams.{BgParams}
 use Rattle.packed_background.proofs.inner.background_row.Goals as goal
 
 pub drawn-requires : goal.drawn-requires
-drawn-requires c = record {
-  background = subst (λ (q : BgParams). background_of q.layer < 4) (sym c.bg_params-p.ensures) (own_number c.args.r c.args.bg.number);
-  row = c.requires.1;
-}
+drawn-requires c =
+    subst (λ (q : BgParams). background_of q.layer < 4) (sym c.bg_params-p.ensures) (own_number c.args.r c.args.bg.number)
 
 pub returns-then-p : goal.returns-then-p
 returns-then-p c =
     let a = c.args in
     let p = c.bg_params-p in
     c.drawn.ensures
-    ∙ ((λ i. tab 256 (λ x. cond (sym c.if-p.true i) (packed_if (bg_pixel a.vram.now a.g.now a.r p.result a.y x)) 0))
-    ∙ (λ i. tab 256 (λ x. cond ((p.ensures i).to_main || (p.ensures i).to_sub) (packed_if (bg_pixel a.vram.now a.g.now a.r (p.ensures i) a.y x)) 0)))
+    ∙ ((λ i. tab 256 (λ x. cond (sym c.if-p.true i) (packed_if (bg_pixel a.vram.now a.g.now a.r p.result a.y.number x)) 0))
+    ∙ (λ i. tab 256 (λ x. cond ((p.ensures i).to_main || (p.ensures i).to_sub) (packed_if (bg_pixel a.vram.now a.g.now a.r (p.ensures i) a.y.number x)) 0)))
 
 pub returns-else-p : goal.returns-else-p
 returns-else-p c =
     let a = c.args in
     let p = c.bg_params-p in
-    c.requires.0
-    ∙ ((λ i. tab 256 (λ x. cond (sym c.if-p.false i) (packed_if (bg_pixel a.vram.now a.g.now a.r p.result a.y x)) 0))
-    ∙ (λ i. tab 256 (λ x. cond ((p.ensures i).to_main || (p.ensures i).to_sub) (packed_if (bg_pixel a.vram.now a.g.now a.r (p.ensures i) a.y x)) 0)))
+    c.requires
+    ∙ ((λ i. tab 256 (λ x. cond (sym c.if-p.false i) (packed_if (bg_pixel a.vram.now a.g.now a.r p.result a.y.number x)) 0))
+    ∙ (λ i. tab 256 (λ x. cond ((p.ensures i).to_main || (p.ensures i).to_sub) (packed_if (bg_pixel a.vram.now a.g.now a.r (p.ensures i) a.y.number x)) 0)))

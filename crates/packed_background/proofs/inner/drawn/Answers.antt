@@ -23,4 +23,4 @@ returns c =
     (λ x h. (λ i. get_or (c.cells.ensures i) (x - x % c.block-block.ensures.0 i + fine) 0)
     ∙ (get_d_tab (λ (n : ℕ). packed_if (cell_at v g p c.direct_color.result c.source_line-py.result n)) 264 (x - x % size + fine) 0 (within_cells size x fine h (omega arith))
     ∙ ((λ i. packed_if (cell_at v g p (c.direct_color.ensures i) (c.source_line-py.ensures.0 i) (x - x % size + fine)))
-    ∙ (λ i. packed_if (cell_shown v g a.r p a.y x i)))))
+    ∙ (λ i. packed_if (cell_shown v g a.r p a.y.number x i)))))

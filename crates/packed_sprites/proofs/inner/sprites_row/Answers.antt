@@ -27,18 +27,18 @@ returns-then-bit c =
     let v = a.vram.now in
     let g = a.g.now in
     let t = c.fetched_rows.result in
-    let chosen = chosen_sprites a.oam.now a.r a.y in
-    let view = view_of a.r a.y in
+    let chosen = chosen_sprites a.oam.now a.r a.y.number in
+    let view = view_of a.r a.y.number in
     let line = ap (map packed_if) (drawn_line_lem v g view (byte c) chosen c.fetched_rows.ensures.0) in
     let lit = sym c.if-bit.true ∙ (λ i. c.bit.ensures i || c.bit-2.ensures i) in
     c.draw.ensures
     ∙ (sym (map_tab packed_if 256 (λ x. drawn_all v g (take t.count t.rows) x none))
     ∙ (line
     ∙ (map_tab packed_if 256 (line_pixel v g view 34 chosen)
-    ∙ (λ i. tab 256 (λ x. cond (lit i) (packed_if (sprite_pixel v g a.oam.now a.r a.y x)) 0)))))
+    ∙ (λ i. tab 256 (λ x. cond (lit i) (packed_if (sprite_pixel v g a.oam.now a.r a.y.number x)) 0)))))
 
 pub returns-else-bit : goal.returns-else-bit
 returns-else-bit c =
     let a = c.args in
     let unlit = sym c.if-bit.false ∙ (λ i. c.bit.ensures i || c.bit-2.ensures i) in
-    tab_same 256 {b = 0} refl ∙ (λ i. tab 256 (λ x. cond (unlit i) (packed_if (sprite_pixel a.vram.now a.g.now a.oam.now a.r a.y x)) 0))
+    tab_same 256 {b = 0} refl ∙ (λ i. tab 256 (λ x. cond (unlit i) (packed_if (sprite_pixel a.vram.now a.g.now a.oam.now a.r a.y.number x)) 0))

@@ -34,7 +34,7 @@ unfolding scene_row
 returns c =
     let a = c.args in
     let r = a.r in
-    let lines = scene_lines (lent_scene r a.memory) a.y in
+    let lines = scene_lines (lent_scene r a.memory) a.y.number in
     let low = recoloured_lines low16 lines in
     let lit = sym c.force_blank.ensures ∙ c.if-force_blank.false in
     c.brighten.ensures

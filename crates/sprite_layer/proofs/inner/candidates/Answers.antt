@@ -11,5 +11,5 @@ returns c =
     let a = c.args in
     let at =
     (λ i. get_or (c.line-line.ensures i) a.x none)
-    ∙ get_d_tab (sprite_pixel a.memory.vram.now a.memory.cgram.now a.memory.oam.now a.r a.y) 256 a.x none c.requires.1 in
+    ∙ get_d_tab (sprite_pixel a.memory.vram.now a.memory.cgram.now a.memory.oam.now a.r a.y.number) 256 a.x none c.requires in
     c.on_screens.ensures ∙ (λ i. candidates_of (c.shown.ensures i) a.x (at i))

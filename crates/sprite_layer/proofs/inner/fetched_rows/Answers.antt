@@ -10,7 +10,7 @@ use Rattle.sprite_layer.proofs.inner.fetched_rows.Goals.{After-choose-chosen, Af
 -- what `choose` hands back, by the registers
 is-chosen-1 : (c : After-choose-chosen) →
     let a = c.args in
-    c.choose-chosen.result ≡ chosen_of a.oam.now a.y a.r.objsel a.r.oamadd (view_of a.r a.y).obj_interlace
+    c.choose-chosen.result ≡ chosen_of a.oam.now a.y.number a.r.objsel a.r.oamadd (view_of a.r a.y.number).obj_interlace
 is-chosen-1 c =
     let a = c.args in
     let view = c.view-view.ensures in
@@ -20,7 +20,7 @@ is-chosen-1 c =
 -- what `choose` hands back, by the registers
 is-chosen-2 : (c : After-fetch) →
     let a = c.args in
-    c.choose-chosen.result ≡ chosen_of a.oam.now a.y a.r.objsel a.r.oamadd (view_of a.r a.y).obj_interlace
+    c.choose-chosen.result ≡ chosen_of a.oam.now a.y.number a.r.objsel a.r.oamadd (view_of a.r a.y.number).obj_interlace
 is-chosen-2 c =
     let a = c.args in
     let view = c.view-view.ensures in
@@ -30,13 +30,13 @@ is-chosen-2 c =
 pub fetch-requires : goal.fetch-requires
 fetch-requires c =
     let a = c.args in
-    (chosen_few a.oam.now a.y a.r (is-chosen-1 c), chosen_fair a.oam.now a.y a.r (is-chosen-1 c))
+    (chosen_few a.oam.now a.y.number a.r (is-chosen-1 c), chosen_fair a.oam.now a.y.number a.r (is-chosen-1 c))
 
 pub returns : goal.returns
 returns c =
     let a = c.args in
     let view = c.view-view.ensures in (
       c.fetch.ensures.0
-          ∙ (λ i. fetched_list (view i) (fetched 34 (view i).objsel (chosen_listed a.oam.now a.y a.r (is-chosen-2 c) i))),
+          ∙ (λ i. fetched_list (view i) (fetched 34 (view i).objsel (chosen_listed a.oam.now a.y.number a.r (is-chosen-2 c) i))),
       c.fetch.ensures.1,
     )

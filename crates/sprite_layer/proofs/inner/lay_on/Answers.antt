@@ -11,7 +11,7 @@ pub returns-then-shown : goal.returns-then-shown
 returns-then-shown c =
     let a = c.args in
     let lines : Lines = record { main = a.main.now; sub = a.sub.now } in
-    let pixel = sprite_pixel a.memory.vram.now a.memory.cgram.now a.memory.oam.now a.r a.y in
+    let pixel = sprite_pixel a.memory.vram.now a.memory.cgram.now a.memory.oam.now a.r a.y.number in
     let e = (λ i. lay_lines (c.shown-shown.ensures i) (candidate_in (c.line-line.ensures i)) lines) ∙ lay_row (sprites_shown a.r) pixel lines in
     record { main = c.lay_few.ensures.main ∙ (λ i. (e i).main); sub = c.lay_few.ensures.sub ∙ (λ i. (e i).sub) }
 
@@ -19,7 +19,7 @@ pub returns-else-shown : goal.returns-else-shown
 returns-else-shown c =
     let a = c.args in
     let lines : Lines = record { main = a.main.now; sub = a.sub.now } in
-    let pixel = sprite_pixel a.memory.vram.now a.memory.cgram.now a.memory.oam.now a.r a.y in
+    let pixel = sprite_pixel a.memory.vram.now a.memory.cgram.now a.memory.oam.now a.r a.y.number in
     let unlit = neither _ _ c.if-shown.false in
     let main = sym (λ i. (c.shown-shown.ensures i).to_main) ∙ unlit.0 in
     let sub = sym (λ i. (c.shown-shown.ensures i).to_sub) ∙ unlit.1 in

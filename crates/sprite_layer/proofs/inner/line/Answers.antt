@@ -15,4 +15,4 @@ unfolding sprite_pixel
 returns c =
     let a = c.args in
     c.draw.ensures
-    ∙ drawn_line_lem a.memory.vram.now a.memory.cgram.now (view_of a.r a.y) (byte c) (chosen_sprites a.memory.oam.now a.r a.y) c.fetched_rows.ensures.0
+    ∙ drawn_line_lem a.memory.vram.now a.memory.cgram.now (view_of a.r a.y.number) (byte c) (chosen_sprites a.memory.oam.now a.r a.y.number) c.fetched_rows.ensures.0
