@@ -8,7 +8,6 @@ ghost use Rattle.row_composite.specs.Composite.{colour_at};
 ghost use Rattle.packed_blend.specs.steps.Laws.{low16};
 ghost use Rattle.registers.specs.Scene.{scene};
 ghost use Rattle.row_renderer.specs.Renderer.{scene_lines, scene_row};
-ghost use Rattle.row_renderer.specs.steps.Rows.{layer_row};
 
 use packed_background::inner::background_row;
 use packed_colours::inner::colors;
@@ -21,37 +20,19 @@ use row_composite::inner::{black, brighten};
 use row_tests::inner::Memory;
 use tiles_eight::inner::wide;
 
-// Writes the row of a layer into an empty row, packed, of colour memory in wide words: BG1 to BG4 are
-// 0 to 3, the sprites 4.
-fn layer_row(
-    out: &mut [u32; 256],
-    memory: Memory<'_>,
-    g: &[u32; 256],
-    r: PPURegisters,
-    y: ScreenRow,
-    layer: usize,
-)
-    requires { out.old ≡ tab 256 (λ x. 0) }
-    ensures { out.new ≡ tab 256 (layer_row (scene r memory.entry.vram.now g.now memory.entry.oam.now) y.number layer) }
-{
-    match Background::try_from(layer) {
-        Ok(bg) => background_row(out, memory.vram, g, r, y, bg),
-        Err(_) => sprites_row(out, memory.vram, g, memory.oam, r, y),
-    }
-}
-
 // The colours of row y before brightness: the rows of the five layers, and colour math.
 fn mixed(memory: Memory<'_>, r: PPURegisters, y: ScreenRow) -> [u16; 256]
     ensures { result ≡ tab 256 (colour_at r (recoloured_lines low16 (scene_lines (lent_scene r memory.entry) y.number))) }
 {
     let back = backdrop(memory.cgram[0]);
     let g = wide(memory.cgram);
+    let vram = memory.vram;
     let mut rows = [[0; 256]; 5];
-    layer_row(&mut rows[0], memory, &g, r, y, 0);
-    layer_row(&mut rows[1], memory, &g, r, y, 1);
-    layer_row(&mut rows[2], memory, &g, r, y, 2);
-    layer_row(&mut rows[3], memory, &g, r, y, 3);
-    layer_row(&mut rows[4], memory, &g, r, y, 4);
+    background_row(&mut rows[0], vram, &g, r, y, Background { number: 0 });
+    background_row(&mut rows[1], vram, &g, r, y, Background { number: 1 });
+    background_row(&mut rows[2], vram, &g, r, y, Background { number: 2 });
+    background_row(&mut rows[3], vram, &g, r, y, Background { number: 3 });
+    sprites_row(&mut rows[4], vram, &g, memory.oam, r, y);
     colors(&rows, back, r)
 }
 
