@@ -25,17 +25,17 @@ use row_tests::inner::bg_tested;
 // are handed on.
 fn tested<'a>(
     y: usize,
-    words: usize,
+    vram: &'a [u16],
     cgram: &'a [u16],
     counter: u8,
     column: bool,
     layer: Layer,
 ) -> Result<(&'a [u16; 256], ScreenRow), Refusal>
-    ensures said { said_of result ≡ bg_tests y words (length cgram.now) counter (column && is_background layer) }
+    ensures said { said_of result ≡ bg_tests y (length vram.now) (length cgram.now) counter (column && is_background layer) }
     ensures held { IfOk result (λ g. (g.0.now ≡ cgram.now) × ((g.1.number ≡ y) × ((background_of layer < 4) × (column ≡ true)))) }
 {
     let background = bg_index(layer) < BACKGROUNDS;
-    bg_tested(y, words, cgram, counter, column & background)
+    bg_tested(y, vram, cgram, counter, column & background)
 }
 
 // The candidates of a background at column x of row y, on both screens.
@@ -50,7 +50,7 @@ pub fn bg_candidates(
     ensures { means result ≡ bg_candidates_answer vram.now cgram.now r p y x }
 {
     let column = x < SCREEN_WIDTH;
-    let (cgram, y) = tested(y, vram.len(), cgram, r.mosaic_vcounter, column, p.layer)?;
+    let (cgram, y) = tested(y, vram, cgram, r.mosaic_vcounter, column, p.layer)?;
     Ok(inner::candidates(vram, cgram, r, p, x, y))
 }
 
@@ -65,7 +65,7 @@ pub fn render_bg_scanline(
 ) -> Result<(), Refusal>
     ensures { record { said = means result; left = lines.new } ≡ bg_laid_outcome vram.now cgram.now r p y lines.old }
 {
-    let (cgram, y) = tested(y, vram.len(), cgram, r.mosaic_vcounter, true, p.layer)?;
+    let (cgram, y) = tested(y, vram, cgram, r.mosaic_vcounter, true, p.layer)?;
     inner::lay(lines, vram, cgram, r, p, y);
     Ok(())
 }

@@ -20,7 +20,8 @@ fn lay_bg(lines: &mut Lines, memory: Memory<'_>, r: PPURegisters, y: ScreenRow, 
     ensures { lines.new ≡ lay_lines (bg_shown_by r (params_of r bg.number)) (bg_pixel memory.entry.vram.now memory.entry.cgram.now r (params_of r bg.number) y.number) lines.old }
 {
     let p = bg_params(r, bg);
-    bg_layer::inner::lay(lines, memory.vram, memory.cgram, r, p, y);
+    let vram = memory.vram;
+    bg_layer::inner::lay(lines, vram, memory.cgram, r, p, y);
 }
 
 // Lays a layer over both lines.
@@ -48,7 +49,8 @@ pub fn candidates(
     match Background::try_from(layer) {
         Ok(bg) => {
             let p = bg_params(r, bg);
-            bg_layer::inner::candidates(memory.vram, memory.cgram, r, p, x, y)
+            let vram = memory.vram;
+            bg_layer::inner::candidates(vram, memory.cgram, r, p, x, y)
         }
         Err(_) => sprite_layer::inner::candidates(memory, r, x, y),
     }

@@ -5,18 +5,17 @@ ghost use Rattle.base_refusal.specs.Answer.{◌and_then◌};
 ghost use Rattle.base_refusal.specs.Numbers.{number_of};
 ghost use Rattle.base_refusal.specs.Results.{means, Passed};
 ghost use Rattle.base_refusal.specs.steps.Said.{said_of};
-ghost use Rattle.row_tests.specs.Tests.{test, row_number_test, oam_test, counter_test, base_tests, row_tests, last_tests, lent_tests, bg_tests, choice_tests, part_tests};
+ghost use Rattle.row_tests.specs.Tests.{test, row_number_test, vram_test, colour_test, oam_test, counter_test, row_tests, last_tests, lent_tests, bg_tests, choice_tests, part_tests};
 ghost use Rattle.row_tests.specs.steps.Memory.{Lends};
 
 use base_refusal::Refusal;
 use registers::constants::LARGEST_COUNTER;
 use registers::screen_row::ScreenRow;
-use tiles::inner::VRAM_WORDS;
 
-// The lent memories that a row is drawn from. VRAM is read at addresses taken mod its length.
+// The lent memories that a row is drawn from.
 #[derive(Clone, Copy)]
 pub struct Memory<'a> {
-    pub vram: &'a [u16],
+    pub vram: &'a [u16; 32768],
     pub cgram: &'a [u16; 256],
     pub oam: &'a [u8; 544],
 }
@@ -43,19 +42,24 @@ fn counter_tested(counter: u8) -> Result<(), Refusal>
     test(counter <= LARGEST_COUNTER, Refusal::Counter)
 }
 
-// The row, VRAM and colour memory. Colour memory and the row are handed on.
-fn base_tested<'a>(
-    y: usize,
-    words: usize,
-    cgram: &'a [u16],
-) -> Result<(&'a [u16; 256], ScreenRow), Refusal>
-    ensures said { said_of result ≡ base_tests y words (length cgram.now) }
-    ensures held { IfOk result (λ g. (g.0.now ≡ cgram.now) × (g.1.number ≡ y)) }
+// VRAM, which is handed on.
+fn vram_tested<'a>(vram: &'a [u16]) -> Result<&'a [u16; 32768], Refusal>
+    ensures said { said_of result ≡ vram_test (length vram.now) }
+    ensures held { IfOk result (λ v. v.now ≡ vram.now) }
 {
-    let y = number_tested(y)?;
-    test(words == VRAM_WORDS, Refusal::Vram)?;
+    match <&[u16; 32768]>::try_from(vram) {
+        Ok(words) => Ok(words),
+        Err(_) => Err(Refusal::Vram),
+    }
+}
+
+// Colour memory, which is handed on.
+fn colour_tested<'a>(cgram: &'a [u16]) -> Result<&'a [u16; 256], Refusal>
+    ensures said { said_of result ≡ colour_test (length cgram.now) }
+    ensures held { IfOk result (λ g. g.now ≡ cgram.now) }
+{
     match <&[u16; 256]>::try_from(cgram) {
-        Ok(colours) => Ok((colours, y)),
+        Ok(colours) => Ok(colours),
         Err(_) => Err(Refusal::Colour),
     }
 }
@@ -81,7 +85,9 @@ fn row_tested<'a>(
     ensures said { said_of result ≡ row_tests y (length vram.now) (length cgram.now) (length oam.now) }
     ensures held { IfOk result (λ m. Lends m.0 vram.now cgram.now oam.now × (m.1.number ≡ y)) }
 {
-    let (cgram, y) = base_tested(y, vram.len(), cgram)?;
+    let y = number_tested(y)?;
+    let vram = vram_tested(vram)?;
+    let cgram = colour_tested(cgram)?;
     let oam = oam_tested(oam)?;
     Ok((Memory { vram, cgram, oam }, y))
 }
@@ -97,15 +103,17 @@ fn last_tested(counter: u8, in_range: bool) -> Result<(), Refusal>
 // The tests of a background's calls.
 pub fn bg_tested<'a>(
     y: usize,
-    words: usize,
+    vram: &'a [u16],
     cgram: &'a [u16],
     counter: u8,
     in_range: bool,
 ) -> Result<(&'a [u16; 256], ScreenRow), Refusal>
-    ensures said { said_of result ≡ bg_tests y words (length cgram.now) counter in_range }
+    ensures said { said_of result ≡ bg_tests y (length vram.now) (length cgram.now) counter in_range }
     ensures held { IfOk result (λ g. (g.0.now ≡ cgram.now) × ((g.1.number ≡ y) × (in_range ≡ true))) }
 {
-    let (cgram, y) = base_tested(y, words, cgram)?;
+    let y = number_tested(y)?;
+    vram_tested(vram)?;
+    let cgram = colour_tested(cgram)?;
     last_tested(counter, in_range)?;
     Ok((cgram, y))
 }

@@ -46,7 +46,8 @@ pub fn fetched_rows(oam: &[u8; OAM_SIZE], r: PPURegisters, y: ScreenRow) -> Fetc
 pub fn line(memory: Memory<'_>, r: PPURegisters, y: ScreenRow) -> [Candidate; 256]
     ensures { result ≡ tab 256 (sprite_pixel memory.entry.vram.now memory.entry.cgram.now memory.entry.oam.now r y.number) }
 {
-    draw(fetched_rows(memory.oam, r, y), memory.vram, memory.cgram)
+    let vram = memory.vram;
+    draw(fetched_rows(memory.oam, r, y), vram, memory.cgram)
 }
 
 // Where the sprites are shown.
