@@ -41,7 +41,7 @@ pub fn mix(main: &[u32; 256], sub: &[u32; 256], s: ColorMath, inside: &[bool; 25
     let kept_out = region(s.clip_mode, false);
     let math_in = region(s.math_region, true);
     let math_out = region(s.math_region, false);
-    std::array::from_fn(|x| {
+    std::array::from_fn(move |x| {
         let keep_main = select(inside[x], kept_in, kept_out);
         let allowed = select(inside[x], math_in, math_out);
         blend(s, main[x], sub[x], keep_main, allowed)
@@ -54,7 +54,7 @@ pub fn keep(line: &[u32; 256], clip_mode: u8, inside: &[bool; 256]) -> [u16; 256
 {
     let kept_in = region(clip_mode, true);
     let kept_out = region(clip_mode, false);
-    std::array::from_fn(|x| {
+    std::array::from_fn(move |x| {
         let keep_main = select(inside[x], kept_in, kept_out);
         select(keep_main, (line[x] % 65536) as u16, 0)
     })
