@@ -17,7 +17,7 @@ pub const OAM_SIZE: usize = 544;
 pub const SPRITES: u8 = 128;
 
 // A sprite as sprite memory describes it.
-#[derive(Clone, Copy, Debug, PartialEq, Eq)]
+#[derive(Clone, Copy, Debug, Default, PartialEq, Eq)]
 pub struct Sprite {
     // The column of its left edge, -256 to 255.
     pub x: i16,
@@ -44,18 +44,7 @@ impl Sprite {
     pub fn blank() -> Sprite
         ensures { result ≡ blank_sprite }
     {
-        Sprite {
-            x: 0,
-            y: 0,
-            tile: 0,
-            chr_base: 0,
-            name_table: 0,
-            palette: 0,
-            priority: 0,
-            flip_x: false,
-            flip_y: false,
-            large: false,
-        }
+        Sprite::default()
     }
 }
 

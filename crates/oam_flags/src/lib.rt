@@ -4,7 +4,7 @@
 ghost use Rattle.std.specs.Prelude.{◌≡◌};
 ghost use Rattle.oam_flags.specs.Flags.{kept_flags, clear_flags};
 
-#[derive(Clone, Copy, Debug, PartialEq, Eq)]
+#[derive(Clone, Copy, Debug, Default, PartialEq, Eq)]
 pub struct OamFlags {
     pub time_over: bool,
     pub range_over: bool,
@@ -15,10 +15,7 @@ impl OamFlags {
     pub fn new() -> OamFlags
         ensures { result ≡ clear_flags }
     {
-        OamFlags {
-            time_over: false,
-            range_over: false,
-        }
+        OamFlags::default()
     }
 
     // A row's flags are added: a flag once set stays set.

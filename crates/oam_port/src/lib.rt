@@ -16,7 +16,7 @@ pub const PORT_ADDRESSES: u16 = 1024;
 
 // The address, 0 to 1,023, of the byte that the next access means, and the byte that waits for the
 // other half of its pair.
-#[derive(Clone, Copy, Debug, PartialEq, Eq)]
+#[derive(Clone, Copy, Debug, Default, PartialEq, Eq)]
 pub struct OamPort {
     pub address: u16,
     pub write_latch: u8,
@@ -49,10 +49,7 @@ impl OamPort {
     pub fn new() -> OamPort
         ensures { result ≡ rest_port }
     {
-        OamPort {
-            address: 0,
-            write_latch: 0,
-        }
+        OamPort::default()
     }
 
     // The address write: oamadd's low nine bits name a pair of bytes. The latch is kept.

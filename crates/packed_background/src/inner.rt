@@ -16,7 +16,7 @@ use bg_map::inner::{extent, map_row, source_line};
 use bg_modes::inner::bg_params;
 use bg_tile::inner::{character_row, palette};
 use line_pixels::inner::bg_index;
-use packed_pixels::inner::{from_column, head};
+use packed_pixels::inner::{Head, from_column};
 use registers::PPURegisters;
 use registers::background::Background;
 use registers::screen_row::ScreenRow;
@@ -29,7 +29,7 @@ pub fn eight(vram: &[u16], g: &[u32; 256], p: BgParams, direct: bool, t: TileRow
     requires { (background_of p.layer < 4) × TileRowSound t }
     ensures { result ≡ tab 8 (λ k. packed_if (cell_in vram.now (bg_colours g.now p t.palette) p (is_eight p.bpp && direct) t k)) }
 {
-    let head = head(bg_index(p.layer) as u32, t.z);
+    let head = Head::new(bg_index(p.layer) as u32, t.z);
     let colors = palette(g, p, t.palette);
     match p.bpp {
         BitDepth::Two => shaded::<1>(vram, t, head, colors),

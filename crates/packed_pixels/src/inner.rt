@@ -21,11 +21,21 @@ const CODE_PLACE: u32 = 65536;
 const RANK_PLACE: u32 = 524288;
 
 // What a packed pixel has above its colour: a code below 8, and its priority.
-pub fn head(code: u32, z: Priority) -> u32
-    requires { code < 8 }
-    ensures { (result ≡ head_of code z) × (result < head_end) }
-{
-    CODE_PLACE * code + RANK_PLACE * rank(z)
+#[derive(Clone, Copy, Debug, PartialEq, Eq)]
+pub struct Head {
+    pub bits: u32,
+    ghost below: { bits < head_end },
+}
+
+impl Head {
+    pub fn new(code: u32, z: Priority) -> Head
+        requires { code < 8 }
+        ensures { result.bits ≡ head_of code z }
+    {
+        Head {
+            bits: CODE_PLACE * code + RANK_PLACE * rank(z),
+        }
+    }
 }
 
 // A packed pixel of the backdrop.
@@ -33,7 +43,7 @@ pub fn head(code: u32, z: Priority) -> u32
 pub fn backdrop(color: u16) -> u32
     ensures { result ≡ packed (backdrop_of color) }
 {
-    head(BACKDROP, Priority::BACKDROP) + color as u32
+    Head::new(BACKDROP, Priority::BACKDROP).bits + color as u32
 }
 
 // The pixel that is held after a candidate came.

@@ -13,7 +13,7 @@ ghost use Rattle.sprite_layer.specs.Sprites as sprites;
 
 use line_pixels::inner::select;
 use oam::OAM_SIZE;
-use packed_pixels::inner::{from_column, head};
+use packed_pixels::inner::{Head, from_column};
 use registers::PPURegisters;
 use registers::constants::OBJ_LAYER;
 use registers::inner::bit;
@@ -36,7 +36,7 @@ fn pixels(vram: &[u16], g: &[u32; 256], t: TileRow) -> [u32; 8]
     requires { TileRowSound t }
     ensures { result ≡ tab 8 (λ k. packed_if (sprite_pixel_of (sprite_colours g.now t.palette) t.palette t.z (row_index vram.now Four t k))) }
 {
-    let head = head(code(t.palette), t.z);
+    let head = Head::new(code(t.palette), t.z);
     let colors = palette(g, t.palette);
     shaded::<2>(vram, t, head, colors)
 }

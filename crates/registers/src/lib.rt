@@ -22,7 +22,7 @@ use screen_row::ScreenRow;
 
 // The register values, in the scene file's order; then the mosaic counter (lines left in the
 // mosaic block) and the field (true in an odd frame), which the rules take as inputs.
-#[derive(Clone, Copy)]
+#[derive(Clone, Copy, Default)]
 pub struct PPURegisters {
     pub inidisp: u8,
     pub objsel: u8,
@@ -101,39 +101,7 @@ impl PPURegisters {
     pub fn new() -> PPURegisters
         ensures { result ≡ cleared }
     {
-        PPURegisters {
-            inidisp: 0,
-            objsel: 0,
-            oamadd: 0,
-            bgmode: 0,
-            mosaic: 0,
-            bgsc: [0; 4],
-            bg12nba: 0,
-            bg34nba: 0,
-            bg1hofs: 0,
-            bghofs: [0; 3],
-            bg1vofs: 0,
-            bgvofs: [0; 3],
-            w12sel: 0,
-            w34sel: 0,
-            wobjsel: 0,
-            wh0: 0,
-            wh1: 0,
-            wh2: 0,
-            wh3: 0,
-            wbglog: 0,
-            wobjlog: 0,
-            tm: 0,
-            ts: 0,
-            tmw: 0,
-            tsw: 0,
-            cgwsel: 0,
-            cgadsub: 0,
-            coldata: 0,
-            setini: 0,
-            mosaic_vcounter: 0,
-            field: false,
-        }
+        PPURegisters::default()
     }
 
     // The background mode, 0 to 7.

@@ -3,11 +3,11 @@ ghost use Rattle.std.specs.Prelude.{ℕ, ◌≡◌, ◌^◌, ◌<◌, ◌≤◌,
 ghost use Rattle.base_lists.specs.Tab.{tab};
 ghost use Rattle.tiles.specs.Tiles.{plane_word, two_bits, index_of, mirrored};
 ghost use Rattle.tiles_row.specs.steps.Rows.{TileRowSound};
-ghost use Rattle.packed_pixels.specs.steps.Packed.{head_end};
 ghost use Rattle.tiles_eight.specs.steps.Shades.{index_in, shade, shade_direct};
 
 use colour::direct_color;
 use line_pixels::inner::select;
+use packed_pixels::inner::Head;
 use tiles::inner::{mirror, plane_word};
 use tiles_row::TileRow;
 
@@ -61,46 +61,46 @@ fn words<const N: usize>(vram: &[u16], t: TileRow) -> [u16; N]
 
 // The packed pixel of a colour index, under its head.
 #[tactic(auto, unfolding(crate::specs::steps::Shades::shade))]
-fn shade(index: u32, head: u32, colors: &[u32]) -> u32
-    requires { (index < length colors.now) × (head < head_end) }
-    ensures { result ≡ shade colors.now head index }
+fn shade(index: u32, head: Head, colors: &[u32]) -> u32
+    requires { index < length colors.now }
+    ensures { result ≡ shade colors.now head.bits index }
 {
     let at = index as usize;
-    select(index != 0, head + colors[at] % 65536, 0)
+    select(index != 0, head.bits + colors[at] % 65536, 0)
 }
 
 // The eight pixels of a tile's row over its first N plane pairs, under their head.
-pub fn shaded<const N: usize>(vram: &[u16], t: TileRow, head: u32, colors: &[u32]) -> [u32; 8]
-    requires { ((N ≤ 4) × TileRowSound t) × ((length colors.now ≡ 4 ^ N) × (head < head_end)) }
-    ensures { result ≡ tab 8 (λ k. shade colors.now head (index_of vram.now t.base (mirrored k 8 t.flip_x) t.row N)) }
+pub fn shaded<const N: usize>(vram: &[u16], t: TileRow, head: Head, colors: &[u32]) -> [u32; 8]
+    requires { ((N ≤ 4) × TileRowSound t) × (length colors.now ≡ 4 ^ N) }
+    ensures { result ≡ tab 8 (λ k. shade colors.now head.bits (index_of vram.now t.base (mirrored k 8 t.flip_x) t.row N)) }
 {
     let words: [u16; N] = words(vram, t);
     let cols = turned(t.flip_x);
     std::array::from_fn(
         |k| -> u32
-            requires { ((N ≤ 4) × ((k < 8) × (get_or cols k 0 < 8))) × ((length colors.now ≡ 4 ^ N) × (head < head_end)) }
-            ensures { result ≡ shade colors.entry.now head (index_in words (get_or cols k 0) N) }
+            requires { ((N ≤ 4) × ((k < 8) × (get_or cols k 0 < 8))) × (length colors.now ≡ 4 ^ N) }
+            ensures { result ≡ shade colors.entry.now head.bits (index_in words (get_or cols k 0) N) }
         { shade(index(&words, cols[k]), head, colors) },
     )
 }
 
 // The packed pixel of a colour index in direct colour.
 #[tactic(auto, unfolding(crate::specs::steps::Shades::shade_direct))]
-fn shade_direct(index: u32, head: u32, palette: u8) -> u32
-    requires { (index < 256) × (head < head_end) }
-    ensures { result ≡ shade_direct palette head index }
+fn shade_direct(index: u32, head: Head, palette: u8) -> u32
+    requires { index < 256 }
+    ensures { result ≡ shade_direct palette head.bits index }
 {
     select(
         index != 0,
-        head + direct_color(index as u8, palette) as u32,
+        head.bits + direct_color(index as u8, palette) as u32,
         0,
     )
 }
 
 // The eight pixels of a tile's row in direct colour.
-pub fn shaded_direct(vram: &[u16], t: TileRow, head: u32) -> [u32; 8]
-    requires { TileRowSound t × (head < head_end) }
-    ensures { result ≡ tab 8 (λ k. shade_direct t.palette head (index_of vram.now t.base (mirrored k 8 t.flip_x) t.row 4)) }
+pub fn shaded_direct(vram: &[u16], t: TileRow, head: Head) -> [u32; 8]
+    requires { TileRowSound t }
+    ensures { result ≡ tab 8 (λ k. shade_direct t.palette head.bits (index_of vram.now t.base (mirrored k 8 t.flip_x) t.row 4)) }
 {
     let words: [u16; 4] = words(vram, t);
     let cols = turned(t.flip_x);

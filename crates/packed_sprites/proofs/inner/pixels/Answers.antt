@@ -12,5 +12,5 @@ returns c =
     c.shaded.ensures
     ∙ tab_ext 8 _ _
     (λ k h.
-    (λ i. shade (c.palette-colors.ensures i) c.head-head.result (index_of c.args.vram.now t.base (mirrored k 8 t.flip_x) t.row 2))
-    ∙ sprite_shade (sprite_colours c.args.g.now t.palette) t.palette t.z c.code.ensures.0 c.head-head.ensures.0 refl)
+    (λ i. shade (c.palette-colors.ensures i) c.new-head.result.bits (index_of c.args.vram.now t.base (mirrored k 8 t.flip_x) t.row 2))
+    ∙ sprite_shade (sprite_colours c.args.g.now t.palette) t.palette t.z c.code.ensures.0 c.new-head.ensures refl)

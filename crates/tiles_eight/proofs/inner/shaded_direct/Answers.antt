@@ -11,4 +11,4 @@ returns c =
     let a = c.args in
     let t = a.t in
     made _ c.from_fn.ensures.items (λ i b y q k. search rules)
-    ∙ tab_ext 8 _ _ (λ k h i. shade_direct t.palette a.head (index_is a.vram.now t.base t.row 4 t.flip_x c.words-words.ensures c.turned-cols.ensures.0 k h i))
+    ∙ tab_ext 8 _ _ (λ k h i. shade_direct t.palette a.head.bits (index_is a.vram.now t.base t.row 4 t.flip_x c.words-words.ensures c.turned-cols.ensures.0 k h i))
