@@ -28,10 +28,7 @@ fn search_start(oamadd: u16) -> u8
 fn blank() -> VisibleSprite
     ensures { result ≡ blank_place }
 {
-    VisibleSprite {
-        index: 0,
-        sprite: Sprite::blank(),
-    }
+    VisibleSprite::default()
 }
 
 pub fn none_chosen() -> Chosen

@@ -12,7 +12,7 @@ use oam::Sprite;
 use row_tests::inner::choice_tested;
 
 // A sprite with its number in sprite memory.
-#[derive(Clone, Copy, Debug, PartialEq, Eq)]
+#[derive(Clone, Copy, Debug, Default, PartialEq, Eq)]
 pub struct VisibleSprite {
     pub index: u8,
     pub sprite: Sprite,
