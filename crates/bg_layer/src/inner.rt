@@ -1,12 +1,10 @@
 // What the public calls of this crate stand on, for the crates above.
 ghost use Rattle.std.specs.Prelude.{◌≡◌, ◌<◌};
-ghost use Rattle.line_pixels.specs.Pixels.{background_of};
 ghost use Rattle.line_laying.specs.Laying.{candidates_of, lay_line, lay_lines};
 ghost use Rattle.bg_row.specs.Row.{bg_pixel};
 ghost use Rattle.bg_layer.specs.Background.{bg_shown_by};
 
-use bg_map::BgParams;
-use bg_map::inner::{source_column, source_line};
+use bg_map::inner::{BgDrawn, source_column, source_line};
 use bg_tile::inner::pixel;
 use line_laying::inner::on_screens;
 use line_laying::{Candidates, Shown};
@@ -20,16 +18,15 @@ use registers_windows::inner::bg_window;
 
 // Where the background is shown.
 #[tactic(auto, unfolding(crate::specs::Background::bg_shown_by))]
-fn shown(r: PPURegisters, p: BgParams) -> Shown
-    requires { background_of p.layer < 4 }
-    ensures { result ≡ bg_shown_by r p }
+fn shown(r: PPURegisters, p: BgDrawn) -> Shown
+    ensures { result ≡ bg_shown_by r p.params }
 {
     let bg = Background {
-        number: bg_index(p.layer),
+        number: bg_index(p.params.layer),
     };
     Shown {
-        to_main: p.to_main,
-        to_sub: p.to_sub,
+        to_main: p.params.to_main,
+        to_sub: p.params.to_sub,
         win_main: bit(r.tmw, bg.number),
         win_sub: bit(r.tsw, bg.number),
         window: bg_window(r, bg),
@@ -41,15 +38,15 @@ pub fn candidates(
     vram: &[u16],
     cgram: &[u16; 256],
     r: PPURegisters,
-    p: BgParams,
+    p: BgDrawn,
     x: usize,
     y: ScreenRow,
 ) -> Candidates
-    requires { (background_of p.layer < 4) × (x < 256) }
-    ensures { result ≡ candidates_of (bg_shown_by r p) x (bg_pixel vram.now cgram.now r p y.number x) }
+    requires { x < 256 }
+    ensures { result ≡ candidates_of (bg_shown_by r p.params) x (bg_pixel vram.now cgram.now r p.params y.number x) }
 {
-    let px = source_column(r, p, x);
-    let py = source_line(r, p, y);
+    let px = source_column(r, p.params, x);
+    let py = source_line(r, p.params, y);
     let c = pixel(vram, cgram, p, r.direct_color(), px, py);
     on_screens(c, shown(r, p), x)
 }
@@ -61,14 +58,13 @@ fn lay_on(
     vram: &[u16],
     cgram: &[u16; 256],
     r: PPURegisters,
-    p: BgParams,
+    p: BgDrawn,
     y: ScreenRow,
 )
-    requires { background_of p.layer < 4 }
-    ensures main { main.new ≡ lay_line (λ x. (candidates_of (bg_shown_by r p) x (bg_pixel vram.now cgram.now r p y.number x)).main) main.old }
-    ensures sub { sub.new ≡ lay_line (λ x. (candidates_of (bg_shown_by r p) x (bg_pixel vram.now cgram.now r p y.number x)).sub) sub.old }
+    ensures main { main.new ≡ lay_line (λ x. (candidates_of (bg_shown_by r p.params) x (bg_pixel vram.now cgram.now r p.params y.number x)).main) main.old }
+    ensures sub { sub.new ≡ lay_line (λ x. (candidates_of (bg_shown_by r p.params) x (bg_pixel vram.now cgram.now r p.params y.number x)).sub) sub.old }
 {
-    if p.to_main | p.to_sub {
+    if p.params.to_main | p.params.to_sub {
         let row = bg_row::inner::row(vram, cgram, r, p, y);
         line_laying::inner::lay(main, sub, &row, shown(r, p));
     }
@@ -80,11 +76,10 @@ pub fn lay(
     vram: &[u16],
     cgram: &[u16; 256],
     r: PPURegisters,
-    p: BgParams,
+    p: BgDrawn,
     y: ScreenRow,
 )
-    requires { background_of p.layer < 4 }
-    ensures { lines.new ≡ lay_lines (bg_shown_by r p) (bg_pixel vram.now cgram.now r p y.number) lines.old }
+    ensures { lines.new ≡ lay_lines (bg_shown_by r p.params) (bg_pixel vram.now cgram.now r p.params y.number) lines.old }
 {
     lay_on(&mut lines.main, &mut lines.sub, vram, cgram, r, p, y);
 }

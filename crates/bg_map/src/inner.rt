@@ -1,5 +1,6 @@
 // What the crates above ask of a background's map.
 ghost use Rattle.std.specs.Prelude.{◌≡◌, ◌/◌, ◌<◌, ◌≤◌};
+ghost use Rattle.line_pixels.specs.Pixels.{background_of};
 ghost use Rattle.bg_map.specs.Source.{side_of, extent_of, source_column, source_line};
 ghost use Rattle.bg_map.specs.Map.{screens_wide};
 ghost use Rattle.bg_map.specs.steps.Rows.{map_row_of, entry_in};
@@ -8,6 +9,13 @@ use crate::{BgParams, MapEntry};
 use base_signed::inner::rem_euclid;
 use registers::PPURegisters;
 use registers::screen_row::ScreenRow;
+
+// What a background is drawn from: parameters whose layer is one of the four backgrounds.
+#[derive(Clone, Copy, Debug, PartialEq, Eq)]
+pub struct BgDrawn {
+    pub params: BgParams,
+    ghost background: { background_of params.layer < 4 },
+}
 
 // The tile side.
 fn side(tile16: bool) -> usize

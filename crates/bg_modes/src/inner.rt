@@ -4,6 +4,7 @@ ghost use Rattle.bg_modes.specs.Modes.{mode1, lacks, bg_mode_of, params_of};
 
 use crate::BgMode;
 use bg_map::BgParams;
+use bg_map::inner::BgDrawn;
 use line_pixels::Priority;
 use line_pixels::inner::from_bg;
 use registers::PPURegisters;
@@ -139,13 +140,13 @@ pub fn bg_mode(bgmode: u8, bg: Background) -> BgMode
 
 // The parameters by which background bg is drawn.
 #[tactic(auto, unfolding(crate::specs::Modes::params_of))]
-pub fn bg_params(r: PPURegisters, bg: Background) -> BgParams
-    ensures { result ≡ params_of r bg.number }
+pub fn bg_params(r: PPURegisters, bg: Background) -> BgDrawn
+    ensures { result.params ≡ params_of r bg.number }
 {
     let mode = bg_mode(r.bgmode, bg);
     let size = bg_tilemap_size(r, bg);
     let scroll = bg_scroll(r, bg);
-    BgParams {
+    let params = BgParams {
         tilemap_base: bg_tilemap_addr(r, bg),
         tiledata_base: bg_tiledata_addr(r, bg),
         scroll_x: scroll.x,
@@ -161,5 +162,6 @@ pub fn bg_params(r: PPURegisters, bg: Background) -> BgParams
         layer: from_bg(bg),
         to_main: mode.present & bit(r.tm, bg.number),
         to_sub: mode.present & bit(r.ts, bg.number),
-    }
+    };
+    BgDrawn { params }
 }

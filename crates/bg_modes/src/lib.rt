@@ -40,5 +40,5 @@ pub fn bg_mode(r: PPURegisters, bg: usize) -> Result<BgMode, Refusal>
 pub fn bg_params(r: PPURegisters, bg: usize) -> Result<BgParams, Refusal>
     ensures { means result ≡ of_background bg (value (params_of r bg)) }
 {
-    Ok(inner::bg_params(r, Background::try_from(bg)?))
+    Ok(inner::bg_params(r, Background::try_from(bg)?).params)
 }

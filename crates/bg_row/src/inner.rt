@@ -2,14 +2,12 @@
 // there. What holds for the whole row is found once.
 ghost use Rattle.std.specs.Prelude.{◌≡◌, ◌+◌, ◌-◌, ◌%◌, ◌<◌, ◌≤◌};
 ghost use Rattle.base_lists.specs.Tab.{tab};
-ghost use Rattle.line_pixels.specs.Pixels.{background_of};
 ghost use Rattle.line_laying.specs.Laying.{candidate_in};
 ghost use Rattle.bg_map.specs.Source.{extent_of};
 ghost use Rattle.bg_row.specs.Row.{bg_pixel};
 ghost use Rattle.bg_row.specs.steps.Cells.{cell_at};
 
-use bg_map::BgParams;
-use bg_map::inner::{extent, map_row, source_line};
+use bg_map::inner::{BgDrawn, extent, map_row, source_line};
 use bg_tile::inner::{cell, character_row, is_direct, palette};
 use line_pixels::Candidate;
 use registers::PPURegisters;
@@ -17,20 +15,21 @@ use registers::screen_row::ScreenRow;
 
 // The cells of line py of the map: its pixels from the last multiple of 8 that the scroll has
 // passed, 33 characters of them.
-fn cells(vram: &[u16], cgram: &[u16; 256], p: BgParams, direct: bool, py: usize) -> [Candidate; 264]
-    requires { (background_of p.layer < 4) × (py < extent_of p.h64 p.tile16) }
-    ensures { result ≡ tab 264 (cell_at vram.now cgram.now p direct py) }
+fn cells(vram: &[u16], cgram: &[u16; 256], p: BgDrawn, direct: bool, py: usize) -> [Candidate; 264]
+    requires { py < extent_of p.params.h64 p.params.tile16 }
+    ensures { result ≡ tab 264 (cell_at vram.now cgram.now p.params direct py) }
 {
-    let straight = is_direct(p.bpp, direct);
-    let first = p.scroll_x as usize / 8 * 8;
-    let width = extent(p.w64, p.tile16);
-    let map_row = map_row(p, py);
+    let params = p.params;
+    let straight = is_direct(params.bpp, direct);
+    let first = params.scroll_x as usize / 8 * 8;
+    let width = extent(params.w64, params.tile16);
+    let map_row = map_row(params, py);
     let mut out = [Candidate::none(); 264];
     for j in 0..33 {
-        let t = character_row(vram, p, map_row, (first + j * 8) % width, py);
+        let t = character_row(vram, params, map_row, (first + j * 8) % width, py);
         let colors = palette(cgram, p, t.palette);
         for k in 0..8 {
-            out[j * 8 + k] = cell(vram, colors, p, straight, t, k);
+            out[j * 8 + k] = cell(vram, colors, params, straight, t, k);
         }
     }
     out
@@ -73,14 +72,13 @@ pub fn row(
     vram: &[u16],
     cgram: &[u16; 256],
     r: PPURegisters,
-    p: BgParams,
+    p: BgDrawn,
     y: ScreenRow,
 ) -> [Candidate; 256]
-    requires { background_of p.layer < 4 }
-    ensures { result ≡ tab 256 (bg_pixel vram.now cgram.now r p y.number) }
+    ensures { result ≡ tab 256 (bg_pixel vram.now cgram.now r p.params y.number) }
 {
-    let py = source_line(r, p, y);
+    let py = source_line(r, p.params, y);
     let decoded = cells(vram, cgram, p, r.direct_color(), py);
-    let block = registers_mosaic::inner::block(r, p.mosaic) as usize;
-    columns(&decoded, p.scroll_x as usize % 8, block)
+    let block = registers_mosaic::inner::block(r, p.params.mosaic) as usize;
+    columns(&decoded, p.params.scroll_x as usize % 8, block)
 }

@@ -8,6 +8,7 @@ ghost use Rattle.tiles_row.specs.steps.Rows.{TileRowSound};
 ghost use Rattle.bg_tile.specs.steps.Characters.{character_row_at, cell_in};
 
 use bg_map::BgParams;
+use bg_map::inner::BgDrawn;
 use line_pixels::inner::bg_index;
 use line_pixels::{Candidate, LinePixel, Priority};
 use tiles::BitDepth;
@@ -88,21 +89,22 @@ fn start_of(bpp: BitDepth, own: bool, bg: usize, n: u8) -> usize
 }
 
 // Where a tile's colours begin; they end in colour memory.
-pub fn palette_start(p: BgParams, n: u8) -> usize
-    requires { (background_of p.layer < 4) × (n < 8) }
-    ensures { (result ≡ start_of p.bpp p.own_palettes (background_of p.layer) n) × (result + colour_count p.bpp ≤ 256) }
+pub fn palette_start(p: BgDrawn, n: u8) -> usize
+    requires { n < 8 }
+    ensures { (result ≡ start_of p.params.bpp p.params.own_palettes (background_of p.params.layer) n) × (result + colour_count p.params.bpp ≤ 256) }
 {
-    start_of(p.bpp, p.own_palettes, bg_index(p.layer), n)
+    let params = p.params;
+    start_of(params.bpp, params.own_palettes, bg_index(params.layer), n)
 }
 
 // A tile's colours, a part of colour memory, whatever its words are.
-pub fn palette<'a, T>(cgram: &'a [T; 256], p: BgParams, n: u8) -> &'a [T]
-    requires { (background_of p.layer < 4) × (n < 8) }
-    ensures { result.now ≡ bg_colours cgram.now p n }
+pub fn palette<'a, T>(cgram: &'a [T; 256], p: BgDrawn, n: u8) -> &'a [T]
+    requires { n < 8 }
+    ensures { result.now ≡ bg_colours cgram.now p.params n }
 {
     let start = palette_start(p, n);
     let words = &cgram[..];
-    &words[start..start + colors(p.bpp)]
+    &words[start..start + colors(p.params.bpp)]
 }
 
 // Is direct colour shown at this depth?
@@ -153,16 +155,18 @@ pub fn cell(
 pub fn pixel(
     vram: &[u16],
     cgram: &[u16; 256],
-    p: BgParams,
+    p: BgDrawn,
     direct: bool,
     px: usize,
     py: usize,
 ) -> Candidate
-    requires { (background_of p.layer < 4) × ((px < extent_of p.w64 p.tile16) × (py < extent_of p.h64 p.tile16)) }
-    ensures { result ≡ pixel_at vram.now cgram.now p direct px py }
+    requires { (px < extent_of p.params.w64 p.params.tile16) × (py < extent_of p.params.h64 p.params.tile16) }
+    ensures { result ≡ pixel_at vram.now cgram.now p.params direct px py }
 {
-    let map_row = bg_map::inner::map_row(p, py);
-    let t = character_row(vram, p, map_row, px / 8 * 8, py);
+    let params = p.params;
+    let map_row = bg_map::inner::map_row(params, py);
+    let t = character_row(vram, params, map_row, px / 8 * 8, py);
     let colors = palette(cgram, p, t.palette);
-    cell(vram, colors, p, is_direct(p.bpp, direct), t, px % 8)
+    let direct = is_direct(params.bpp, direct);
+    cell(vram, colors, params, direct, t, px % 8)
 }

@@ -1,7 +1,6 @@
 // What a whole row asks of a background.
 ghost use Rattle.std.specs.Prelude.{◌≡◌, cond, ◌&&◌, ◌||◌, ◌+◌, ◌-◌, ◌%◌, ◌<◌, ◌≤◌, get_or, take};
 ghost use Rattle.base_lists.specs.Tab.{tab};
-ghost use Rattle.line_pixels.specs.Pixels.{background_of};
 ghost use Rattle.packed_pixels.specs.steps.Packed.{packed_if};
 ghost use Rattle.bg_map.specs.Source.{extent_of};
 ghost use Rattle.tiles_row.specs.steps.Rows.{TileRowSound};
@@ -11,8 +10,7 @@ ghost use Rattle.bg_row.specs.Row.{bg_pixel};
 ghost use Rattle.bg_row.specs.steps.Cells.{cell_at};
 ghost use Rattle.bg_modes.specs.Modes.{params_of};
 
-use bg_map::BgParams;
-use bg_map::inner::{extent, map_row, source_line};
+use bg_map::inner::{BgDrawn, extent, map_row, source_line};
 use bg_modes::inner::bg_params;
 use bg_tile::inner::{character_row, palette};
 use line_pixels::inner::bg_index;
@@ -25,13 +23,13 @@ use tiles_eight::inner::{shaded, shaded_direct};
 use tiles_row::TileRow;
 
 // The eight pixels of a character's row.
-pub fn eight(vram: &[u16], g: &[u32; 256], p: BgParams, direct: bool, t: TileRow) -> [u32; 8]
-    requires { (background_of p.layer < 4) × TileRowSound t }
-    ensures { result ≡ tab 8 (λ k. packed_if (cell_in vram.now (bg_colours g.now p t.palette) p (is_eight p.bpp && direct) t k)) }
+pub fn eight(vram: &[u16], g: &[u32; 256], p: BgDrawn, direct: bool, t: TileRow) -> [u32; 8]
+    requires { TileRowSound t }
+    ensures { result ≡ tab 8 (λ k. packed_if (cell_in vram.now (bg_colours g.now p.params t.palette) p.params (is_eight p.params.bpp && direct) t k)) }
 {
-    let head = Head::new(bg_index(p.layer) as u32, t.z);
+    let head = Head::new(bg_index(p.params.layer) as u32, t.z);
     let colors = palette(g, p, t.palette);
-    match p.bpp {
+    match p.params.bpp {
         BitDepth::Two => shaded::<1>(vram, t, head, colors),
         BitDepth::Four => shaded::<2>(vram, t, head, colors),
         BitDepth::Eight => {
@@ -46,15 +44,16 @@ pub fn eight(vram: &[u16], g: &[u32; 256], p: BgParams, direct: bool, t: TileRow
 
 // Writes the cells of line py of the map: its pixels from the last multiple of 8 that the scroll has
 // passed, 33 characters of them.
-fn cells(out: &mut [u32; 264], vram: &[u16], g: &[u32; 256], p: BgParams, direct: bool, py: usize)
-    requires { (background_of p.layer < 4) × (py < extent_of p.h64 p.tile16) }
-    ensures { out.new ≡ tab 264 (λ i. packed_if (cell_at vram.now g.now p direct py i)) }
+fn cells(out: &mut [u32; 264], vram: &[u16], g: &[u32; 256], p: BgDrawn, direct: bool, py: usize)
+    requires { py < extent_of p.params.h64 p.params.tile16 }
+    ensures { out.new ≡ tab 264 (λ i. packed_if (cell_at vram.now g.now p.params direct py i)) }
 {
-    let first = p.scroll_x as usize / 8 * 8;
-    let width = extent(p.w64, p.tile16);
-    let map_row = map_row(p, py);
+    let params = p.params;
+    let first = params.scroll_x as usize / 8 * 8;
+    let width = extent(params.w64, params.tile16);
+    let map_row = map_row(params, py);
     for j in 0..33 {
-        let t = character_row(vram, p, map_row, (first + j * 8) % width, py);
+        let t = character_row(vram, params, map_row, (first + j * 8) % width, py);
         let pixels = eight(vram, g, p, direct, t);
         for k in 0..8 {
             out[j * 8 + k] = pixels[k];
@@ -100,17 +99,16 @@ fn drawn(
     vram: &[u16],
     g: &[u32; 256],
     r: PPURegisters,
-    p: BgParams,
+    p: BgDrawn,
     y: ScreenRow,
 )
-    requires { background_of p.layer < 4 }
-    ensures { out.new ≡ tab 256 (λ x. packed_if (bg_pixel vram.now g.now r p y.number x)) }
+    ensures { out.new ≡ tab 256 (λ x. packed_if (bg_pixel vram.now g.now r p.params y.number x)) }
 {
-    let py = source_line(r, p, y);
+    let py = source_line(r, p.params, y);
     let mut decoded = [0; 264];
     cells(&mut decoded, vram, g, p, r.direct_color(), py);
-    let block = registers_mosaic::inner::block(r, p.mosaic) as usize;
-    columns(out, &decoded, p.scroll_x as usize % 8, block);
+    let block = registers_mosaic::inner::block(r, p.params.mosaic) as usize;
+    columns(out, &decoded, p.params.scroll_x as usize % 8, block);
 }
 
 // The same of background bg into an empty row, where a screen lights it, and otherwise nothing.
@@ -126,7 +124,7 @@ pub fn background_row(
     ensures { out.new ≡ tab 256 (λ x. cond ((params_of r bg.number).to_main || (params_of r bg.number).to_sub) (packed_if (bg_pixel vram.now g.now r (params_of r bg.number) y.number x)) 0) }
 {
     let p = bg_params(r, bg);
-    if p.to_main | p.to_sub {
+    if p.params.to_main | p.params.to_sub {
         drawn(out, vram, g, r, p, y);
     }
 }

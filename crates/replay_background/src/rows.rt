@@ -43,7 +43,7 @@ fn shown_lines(
     y: usize,
 ) -> Lines {
     let mut lines = Lines::backdrops(cgram[0], r.coldata);
-    let _ = settle(render_bg_scanline(&mut lines, vram, cgram, r, bg_params(r, bg), y));
+    let _ = settle(render_bg_scanline(&mut lines, vram, cgram, r, bg_params(r, bg).params, y));
     lines
 }
 
@@ -59,7 +59,7 @@ fn asked(
     let before = bare(cgram[0], r.coldata);
     laid(
         before,
-        bg_candidates(vram, cgram, r, bg_params(r, bg), x, y),
+        bg_candidates(vram, cgram, r, bg_params(r, bg).params, x, y),
     )
 }
 

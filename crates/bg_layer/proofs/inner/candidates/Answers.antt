@@ -10,5 +10,5 @@ returns c =
     let a = c.args in
     let e =
     c.pixel-c.ensures
-    ∙ (λ i. pixel_at a.vram.now a.cgram.now a.p (c.direct_color.ensures i) (c.source_column-px.ensures.0 i) (c.source_line-py.ensures.0 i)) in
+    ∙ (λ i. pixel_at a.vram.now a.cgram.now a.p.params (c.direct_color.ensures i) (c.source_column-px.ensures.0 i) (c.source_line-py.ensures.0 i)) in
     c.on_screens.ensures ∙ (λ i. candidates_of (c.shown.ensures i) a.x (e i))

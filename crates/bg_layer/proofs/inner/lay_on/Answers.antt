@@ -12,8 +12,8 @@ pub returns-then-p : goal.returns-then-p
 returns-then-p c =
     let a = c.args in
     let lines : Lines = record { main = a.main.now; sub = a.sub.now } in
-    let pixel = bg_pixel a.vram.now a.cgram.now a.r a.p a.y.number in
-    let e = (λ i. lay_lines (c.shown.ensures i) (candidate_in (c.row-row.ensures i)) lines) ∙ lay_row (bg_shown_by a.r a.p) pixel lines in
+    let pixel = bg_pixel a.vram.now a.cgram.now a.r a.p.params a.y.number in
+    let e = (λ i. lay_lines (c.shown.ensures i) (candidate_in (c.row-row.ensures i)) lines) ∙ lay_row (bg_shown_by a.r a.p.params) pixel lines in
     record { main = c.lay.ensures.main ∙ (λ i. (e i).main); sub = c.lay.ensures.sub ∙ (λ i. (e i).sub) }
 
 pub returns-else-p : goal.returns-else-p
@@ -21,7 +21,7 @@ unfolding bg_shown_by
 returns-else-p c =
     let a = c.args in
     let lines : Lines = record { main = a.main.now; sub = a.sub.now } in
-    let pixel = bg_pixel a.vram.now a.cgram.now a.r a.p a.y.number in
+    let pixel = bg_pixel a.vram.now a.cgram.now a.r a.p.params a.y.number in
     let unlit = neither _ _ c.if-p.false in
-    let e = sym (unlit_lays_nothing (bg_shown_by a.r a.p) pixel lines unlit.0 unlit.1 (search rules) (search rules)) in
+    let e = sym (unlit_lays_nothing (bg_shown_by a.r a.p.params) pixel lines unlit.0 unlit.1 (search rules) (search rules)) in
     record { main = λ i. (e i).main; sub = λ i. (e i).sub }

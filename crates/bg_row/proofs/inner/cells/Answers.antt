@@ -16,18 +16,14 @@ loop-j-init c = (front_none (search rules), omega arith)
 pub character_row-t-requires : goal.character_row-t-requires
 character_row-t-requires c =
     let a = c.args in
-    (c.map_row-map_row.ensures, subst (λ (n : ℕ). (a.p.scroll_x / 8 * 8 + c.loop-j.j * 8) % c.extent-width.result < n) c.extent-width.ensures.0 (mod-lt _ c.extent-width.ensures.1.0))
-
-pub palette-colors-requires : goal.palette-colors-requires
-palette-colors-requires c =
-    (omega arith, (c.requires.0, c.character_row-t.ensures.1.palette_in))
+    (c.map_row-map_row.ensures, subst (λ (n : ℕ). (a.p.params.scroll_x / 8 * 8 + c.loop-j.j * 8) % c.extent-width.result < n) c.extent-width.ensures.0 (mod-lt _ c.extent-width.ensures.1.0))
 
 pub loop-k-init : goal.loop-k-init
 loop-k-init c = let l = c.loop-j in (simp add-zero l.invariant.0, omega arith)
 
 pub cell-requires : goal.cell-requires
 cell-requires c =
-    let long = palette_length c.args.cgram.now c.args.p c.character_row-t.result.palette (search rules) c.requires.0 c.character_row-t.ensures.1.palette_in in
+    let long = palette_length c.args.cgram.now c.args.p.params c.character_row-t.result.palette (search rules) c.args.p.background c.character_row-t.ensures.1.palette_in in
     (rw c.palette-colors.ensures long, (c.character_row-t.ensures.1, c.loop-k-test.true))
 
 pub loop-k-preserved : goal.loop-k-preserved
@@ -36,14 +32,15 @@ loop-k-preserved c =
     let a = c.args in
     let v = a.vram.now in
     let g = a.cgram.now in
+    let p = a.p.params in
     let j = c.loop-j.j in
     let k = l.k in
     let h = c.loop-k-test.true in
-    let ch = c.character_row-t.ensures.0 ∙ (λ n. character_row_at v a.p ((a.p.scroll_x / 8 * 8 + j * 8) % c.extent-width.ensures.0 n) a.py) in
-    let colours = c.palette-colors.ensures ∙ (λ n. bg_colours g a.p (ch n).palette) in
+    let ch = c.character_row-t.ensures.0 ∙ (λ n. character_row_at v p ((p.scroll_x / 8 * 8 + j * 8) % c.extent-width.ensures.0 n) a.py) in
+    let colours = c.palette-colors.ensures ∙ (λ n. bg_colours g p (ch n).palette) in
     let is =
     c.cell.ensures
-    ∙ ((λ n. cell_in v (colours n) a.p (c.is_direct-straight.ensures n) (ch n) k) ∙ cell_of v g a.p a.direct a.py j k h) in
+    ∙ ((λ n. cell_in v (colours n) p (c.is_direct-straight.ensures n) (ch n) k) ∙ cell_of v g p a.direct a.py j k h) in
     let low : j * 8 + k < 264 = omega (arith, h, c.loop-j-test.true) in
     let e : j * 8 + k + 1 ≡ j * 8 + (k + 1) = omega arith in
     (front_at e (front_more l.invariant.0 low _ is), omega (arith, h))

@@ -5,14 +5,14 @@ use Rattle.bg_row.proofs.inner.cells.Given as goal
 
 abbrev pub invariant-loop-k : goal.invariant-loop-k
 invariant-loop-k l =
-    Front 264 (cell_at l.vram l.cgram l.p l.direct l.py) l.out (l.j * 8 + l.k) × (l.k ≤ 8)
+    Front 264 (cell_at l.vram l.cgram l.p.params l.direct l.py) l.out (l.j * 8 + l.k) × (l.k ≤ 8)
 
 abbrev pub decreases-loop-k : goal.decreases-loop-k
 decreases-loop-k l = 8 - l.k
 
 abbrev pub invariant-loop-j : goal.invariant-loop-j
 invariant-loop-j l =
-    Front 264 (cell_at l.vram l.cgram l.p l.direct l.py) l.out (l.j * 8) × (l.j ≤ 33)
+    Front 264 (cell_at l.vram l.cgram l.p.params l.direct l.py) l.out (l.j * 8) × (l.j ≤ 33)
 
 abbrev pub decreases-loop-j : goal.decreases-loop-j
 decreases-loop-j l = 33 - l.j

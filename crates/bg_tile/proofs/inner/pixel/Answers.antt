@@ -10,7 +10,7 @@ use Rattle.bg_tile.proofs.inner.pixel.Goals as goal
 pub cell-requires : goal.cell-requires
 cell-requires c =
     let long =
-    palette_length c.args.cgram.now c.args.p c.character_row-t.result.palette (search rules) c.requires.0
+    palette_length c.args.cgram.now c.args.p.params c.character_row-t.result.palette (search rules) c.args.p.background
     c.character_row-t.ensures.1.palette_in in
     (rw c.palette-colors.ensures long, (c.character_row-t.ensures.1, omega arith))
 
@@ -19,12 +19,13 @@ returns c =
     let a = c.args in
     let v = a.vram.now in
     let g = a.cgram.now in
+    let p = a.p.params in
     let n = a.px / 8 * 8 in
     let k = a.px % 8 in
     let ch = c.character_row-t.ensures.0 in
-    let colours = c.palette-colors.ensures ∙ (λ j. bg_colours g a.p (ch j).palette) in
+    let colours = c.palette-colors.ensures ∙ (λ j. bg_colours g p (ch j).palette) in
     let whole : n + k ≡ a.px = omega arith in
     c.cell.ensures
-    ∙ ((λ i. cell_in v (colours i) a.p (c.is_direct.ensures i) (ch i) k)
-    ∙ (cell_is_pixel n k (omega arith) (omega arith) v a.p a.py g a.direct
-    ∙ ap (λ (x : ℕ). pixel_at v g a.p a.direct x a.py) whole))
+    ∙ ((λ i. cell_in v (colours i) p (c.is_direct-direct.ensures i) (ch i) k)
+    ∙ (cell_is_pixel n k (omega arith) (omega arith) v p a.py g a.direct
+    ∙ ap (λ (x : ℕ). pixel_at v g p a.direct x a.py) whole))

@@ -20,11 +20,7 @@ loop-j-init c = (front_none (search rules), omega arith)
 pub character_row-t-requires : goal.character_row-t-requires
 character_row-t-requires c =
     let a = c.args in
-    (c.map_row-map_row.ensures, subst (λ (n : ℕ). (a.p.scroll_x / 8 * 8 + c.loop-j.j * 8) % c.extent-width.result < n) c.extent-width.ensures.0 (mod-lt _ c.extent-width.ensures.1.0))
-
-pub eight-pixels-requires : goal.eight-pixels-requires
-eight-pixels-requires c =
-    (c.requires.0, c.character_row-t.ensures.1)
+    (c.map_row-map_row.ensures, subst (λ (n : ℕ). (a.p.params.scroll_x / 8 * 8 + c.loop-j.j * 8) % c.extent-width.result < n) c.extent-width.ensures.0 (mod-lt _ c.extent-width.ensures.1.0))
 
 pub loop-k-init : goal.loop-k-init
 loop-k-init c = let l = c.loop-j in (simp add-zero l.invariant.0, omega arith)
@@ -35,7 +31,7 @@ loop-k-preserved c =
     let a = c.args in
     let v = a.vram.now in
     let g = a.g.now in
-    let p = a.p in
+    let p = a.p.params in
     let j = c.loop-j.j in
     let k = l.k in
     let h = c.loop-k-test.true in

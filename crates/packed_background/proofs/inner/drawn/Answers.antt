@@ -15,7 +15,7 @@ returns c =
     let a = c.args in
     let v = a.vram.now in
     let g = a.g.now in
-    let p = a.p in
+    let p = a.p.params in
     let fine = p.scroll_x % 8 in
     let size = block_if p.mosaic a.r in
     c.columns.ensures

@@ -5,12 +5,8 @@ use Rattle.bg_layer.specs.Background.{bg_shown_by}
 use Rattle.row_tests.specs.Memory.{lent_scene}
 use Rattle.row_layers.specs.Layers.{bg_shown, bg_at}
 use Rattle.row_layers.specs.theorems.Numbers.{shown_low, pixel_low, shown_four, pixel_four}
-use Rattle.row_layers.proofs.Numbers.{own_background, is_four}
+use Rattle.row_layers.proofs.Numbers.{is_four}
 use Rattle.row_layers.proofs.inner.candidates.Goals as goal
-
-pub candidates-requires : goal.candidates-requires
-candidates-requires c =
-    (own_background c.args.r c.in-Ok.bg.number c.bg_params-p.ensures, c.requires.0)
 
 pub returns-in-Ok : goal.returns-in-Ok
 returns-in-Ok c =

@@ -2,11 +2,7 @@ use mathlib.Core.Path.{◌∙◌}
 use Rattle.line_laying.specs.Laying.{lay_lines}
 use Rattle.bg_row.specs.Row.{bg_pixel}
 use Rattle.bg_layer.specs.Background.{bg_shown_by}
-use Rattle.row_layers.proofs.Numbers.{own_background}
 use Rattle.row_layers.proofs.inner.lay_bg.Goals as goal
-
-pub lay-requires : goal.lay-requires
-lay-requires c = own_background c.args.r c.args.bg.number c.bg_params-p.ensures
 
 pub returns : goal.returns
 returns c =
