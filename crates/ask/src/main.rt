@@ -34,10 +34,8 @@ fn tail(s: &[u8], stop: usize) -> usize {
 
 // Is there a line's end before this place?
 fn line_before(s: &[u8], at: usize) -> bool {
-    match at.checked_sub(1) {
-        Some(last) => s.get(last) == Some(&b'\n'),
-        None => false,
-    }
+    at.checked_sub(1)
+        .is_some_and(|last| s.get(last) == Some(&b'\n'))
 }
 
 // Does what a statement says, and writes what it asks.

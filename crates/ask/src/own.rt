@@ -1,6 +1,6 @@
 // What is asked of registers and numbers alone.
 use crate::cells::Cells;
-use crate::say::Said;
+use crate::say::{Said, number};
 use crate::{cells, say};
 use base_refusal::Refusal;
 use bg_map::BgParams;
@@ -36,30 +36,22 @@ pub(crate) enum OfNumbers {
     LayerOf,
 }
 
-fn truth(answer: Result<bool, Refusal>) -> Said {
-    say::number(answer.map(u64::from))
-}
-
-fn word(answer: Result<u16, Refusal>) -> Said {
-    say::number(answer.map(u64::from))
-}
-
 fn layer_bits(r: PPURegisters, n: usize) {
     let bits = [
-        truth(r.to_main(n)),
-        truth(r.to_sub(n)),
-        truth(r.win_main(n)),
-        truth(r.win_sub(n)),
+        number(r.to_main(n)),
+        number(r.to_sub(n)),
+        number(r.win_main(n)),
+        number(r.win_sub(n)),
     ];
     say::told(b" -> tm #, ts #, tmw #, tsw #", &bits);
 }
 
 fn windows_at(r: PPURegisters, x: usize) {
     let bits = [
-        truth(registers_windows::in_window1(r, x)),
-        truth(registers_windows::in_window2(r, x)),
-        truth(registers_windows::obj_window_masked(r, x)),
-        truth(registers_windows::in_color_window(r, x)),
+        number(registers_windows::in_window1(r, x)),
+        number(registers_windows::in_window2(r, x)),
+        number(registers_windows::obj_window_masked(r, x)),
+        number(registers_windows::in_color_window(r, x)),
     ];
     say::told(b" -> first #, second #, sprites #, colour #", &bits);
 }
@@ -68,34 +60,29 @@ fn side(is64: bool) -> Said {
     Said::Number(if is64 { 64 } else { 32 })
 }
 
+fn refused(r: Refusal) -> [Said; 2] {
+    [Said::Refused(r), Said::LeftOut]
+}
+
 // The two numbers of an answer, or its refusal alone.
 fn size(answer: Result<MapSize, Refusal>) -> [Said; 2] {
-    match answer {
-        Ok(s) => [side(s.w64), side(s.h64)],
-        Err(r) => [Said::Refused(r), Said::LeftOut],
-    }
+    answer.map_or_else(refused, |s| [side(s.w64), side(s.h64)])
 }
 
 fn scroll(answer: Result<Scroll, Refusal>) -> [Said; 2] {
-    match answer {
-        Ok(s) => [Said::Number(u64::from(s.x)), Said::Number(u64::from(s.y))],
-        Err(r) => [Said::Refused(r), Said::LeftOut],
-    }
+    answer.map_or_else(refused, |s| [s.x, s.y].map(|n| Said::Number(u64::from(n))))
 }
 
 fn offset(answer: Result<i16, Refusal>) -> Said {
-    match answer {
-        Ok(z) => Said::Signed(z),
-        Err(r) => Said::Refused(r),
-    }
+    answer.map_or_else(Said::Refused, Said::Signed)
 }
 
 fn background(r: PPURegisters, bg: usize) {
     let [width, height] = size(registers_bg::bg_tilemap_size(r, bg));
     let [x, y] = scroll(registers_bg::bg_scroll(r, bg));
     let places = [
-        word(registers_bg::bg_tilemap_addr(r, bg)),
-        word(registers_bg::bg_tiledata_addr(r, bg)),
+        number(registers_bg::bg_tilemap_addr(r, bg)),
+        number(registers_bg::bg_tiledata_addr(r, bg)),
         width,
         height,
         x,
@@ -103,9 +90,9 @@ fn background(r: PPURegisters, bg: usize) {
     ];
     say::told(b" -> map #, tiles #, size # by #, scroll # #", &places);
     let marks = [
-        truth(registers_bg::bg_tile16(r, bg)),
-        truth(registers_mosaic::bg_mosaic(r, bg)),
-        word(registers_mosaic::bg_mosaic_block(r, bg)),
+        number(registers_bg::bg_tile16(r, bg)),
+        number(registers_mosaic::bg_mosaic(r, bg)),
+        number(registers_mosaic::bg_mosaic_block(r, bg)),
     ];
     say::told(b", side16 #, mosaic #, block #", &marks);
 }
@@ -117,13 +104,12 @@ fn whole_mosaic(r: PPURegisters) {
 }
 
 fn rgb(color: u16, level: u16) {
-    match colour::apply_brightness(color, level) {
-        Ok(c) => say::told(
+    say::answered(colour::apply_brightness(color, level), |c| {
+        say::told(
             b" -> # # #",
             &[c.red, c.green, c.blue].map(|n| Said::Number(u64::from(n))),
-        ),
-        Err(r) => say::single(Said::Refused(r)),
-    }
+        );
+    });
 }
 
 fn math(c: &Cells) -> u16 {
@@ -148,10 +134,7 @@ fn entry(word: u16) {
 }
 
 fn layer_of(bg: usize) -> Said {
-    match Layer::from_bg(bg) {
-        Ok(l) => say::layer(l),
-        Err(r) => Said::Refused(r),
-    }
+    Layer::from_bg(bg).map_or_else(Said::Refused, say::layer)
 }
 
 fn sprite_size(objsel: u8, large: bool) {
@@ -188,10 +171,7 @@ fn of_mode(m: BgMode) {
 }
 
 fn bg_mode(r: PPURegisters, bg: usize) {
-    match bg_modes::bg_mode(r, bg) {
-        Ok(m) => of_mode(m),
-        Err(n) => say::single(Said::Refused(n)),
-    }
+    say::answered(bg_modes::bg_mode(r, bg), of_mode);
 }
 
 fn params(p: BgParams) {
@@ -226,17 +206,14 @@ fn screens(text: &[u8], p: BgParams) {
 }
 
 fn bg_params(r: PPURegisters, bg: usize) {
-    match bg_modes::bg_params(r, bg) {
-        Ok(p) => params(p),
-        Err(n) => say::single(Said::Refused(n)),
-    }
+    say::answered(bg_modes::bg_params(r, bg), params);
 }
 
 fn bg_lit(r: PPURegisters, bg: usize) {
-    match bg_modes::bg_params(r, bg) {
-        Ok(p) => screens(b" -> main #, sub #", p),
-        Err(n) => say::single(Said::Refused(n)),
-    }
+    say::answered(
+        bg_modes::bg_params(r, bg),
+        |p| screens(b" -> main #, sub #", p),
+    );
 }
 
 pub(crate) fn of_registers(asked: OfRegisters, n: u64, c: &Cells) {
@@ -246,7 +223,7 @@ pub(crate) fn of_registers(asked: OfRegisters, n: u64, c: &Cells) {
     match asked {
         OfRegisters::LayerBits => layer_bits(r, n),
         OfRegisters::Windows => windows_at(r, x),
-        OfRegisters::Window => say::single(truth(registers_windows::bg_window_masked(r, n, x))),
+        OfRegisters::Window => say::single(number(registers_windows::bg_window_masked(r, n, x))),
         OfRegisters::Background => background(r, n),
         OfRegisters::Mosaic => whole_mosaic(r),
         OfRegisters::SpriteSize => sprite_size(r.objsel, c[cells::LARGE] == 1),

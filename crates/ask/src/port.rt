@@ -46,11 +46,11 @@ fn address(c: &mut Cells, value: u64) {
 
 // The bytes that changed.
 fn changed(before: &[u8; 545], after: &[u8; 545]) {
-    for i in 0..545 {
-        if before[i] != after[i] {
+    for (i, (old, new)) in before.iter().zip(after).enumerate() {
+        if old != new {
             say::told(
                 b", byte # is #",
-                &[i as u64, u64::from(after[i])].map(Said::Number),
+                &[i as u64, u64::from(*new)].map(Said::Number),
             );
         }
     }
@@ -68,7 +68,7 @@ fn write(oam: &mut [u8; 545], value: u64, c: &mut Cells) {
 fn read(oam: &[u8; 545], c: &mut Cells) {
     let n = cells::lent(c[cells::OAM], oam.len());
     let mut port = port_of(c);
-    let byte = port.read_data(&oam[..n]).map(u64::from);
+    let byte = port.read_data(&oam[..n]);
     say::told(b" -> #, ", &[say::number(byte)]);
     keep(c, port);
 }

@@ -44,7 +44,7 @@ fn tile_pixel(vram: &[u16], n: u64, c: &Cells) {
     let bpp = cells::depth(c[cells::BPP]);
     let x = c[cells::X] as usize;
     let y = c[cells::Y] as usize;
-    say::single(say::number(pixel(vram, bpp, n as usize, x, y).map(u64::from)));
+    say::single(say::number(pixel(vram, bpp, n as usize, x, y)));
 }
 
 fn told(s: Sprite) {
@@ -67,10 +67,7 @@ fn told(s: Sprite) {
 }
 
 fn get_sprite(oam: &[u8], index: u8, objsel: u8) {
-    match oam::get_sprite(oam, index, objsel) {
-        Ok(s) => told(s),
-        Err(r) => say::single(Said::Refused(r)),
-    }
+    say::answered(oam::get_sprite(oam, index, objsel), told);
 }
 
 fn chosen(c: &Chosen) {

@@ -82,10 +82,17 @@ pub(crate) fn single(said: Said) {
 }
 
 // A number, or the refusal of it.
-pub(crate) fn number(answer: Result<u64, Refusal>) -> Said {
+pub(crate) fn number<T: Copy + Into<u64>>(answer: Result<T, Refusal>) -> Said {
+    answer.map_or_else(Said::Refused, |n| Said::Number(n.into()))
+}
+
+// Tells what is answered, or writes its refusal as the whole of an answer.
+pub(crate) fn answered<T: Copy, F: Fn(T)>(answer: Result<T, Refusal>, told: F)
+    requires { F.IsAlwaysCallable told }
+{
     match answer {
-        Ok(n) => Said::Number(n),
-        Err(r) => Said::Refused(r),
+        Ok(x) => told(x),
+        Err(r) => single(Said::Refused(r)),
     }
 }
 
@@ -142,13 +149,10 @@ pub(crate) fn pixel(text: &[u8], p: LinePixel) {
 }
 
 pub(crate) fn candidates(answer: Result<Candidates, Refusal>) {
-    match answer {
-        Ok(c) => {
-            candidate(b" -> main # # # math#", c.main);
-            candidate(b", sub # # # math#", c.sub);
-        }
-        Err(r) => single(Said::Refused(r)),
-    }
+    answered(answer, |c| {
+        candidate(b" -> main # # # math#", c.main);
+        candidate(b", sub # # # math#", c.sub);
+    });
 }
 
 // How many bytes are a value.

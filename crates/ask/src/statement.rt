@@ -217,8 +217,9 @@ fn understood(s: &[u8], from: usize, kept: &Cells) -> Option<Statement> {
 // The statement from a place on. What was not understood does nothing, and neither does the rest of its
 // line.
 pub(crate) fn read(s: &[u8], from: usize, kept: &Cells) -> Statement {
-    match understood(s, from, kept) {
-        Some(q) => q,
-        None => Statement::begun(kept, Verb::Unknown, seek(s, from, Stop::Line)),
-    }
+    understood(s, from, kept).unwrap_or_else(|| Statement::begun(
+        kept,
+        Verb::Unknown,
+        seek(s, from, Stop::Line),
+    ))
 }

@@ -20,84 +20,72 @@ fn both(main: LinePixel, sub: LinePixel) -> u64 {
 // A digest with all of two lines.
 fn folded(digest: u32, lines: &Lines) -> u32 {
     let mut d = digest;
-    for x in 0..256 {
-        d = fold(d, both(lines.main[x], lines.sub[x]));
+    for (main, sub) in lines.main.iter().zip(&lines.sub) {
+        d = fold(d, both(*main, *sub));
     }
     d
 }
 
-// The registers with background bg lit on these screens alone.
-fn lit(registers: PPURegisters, bg: Background, main: bool, sub: bool) -> PPURegisters {
-    let mut r = registers;
-    r.tm = u8::from(main) << bg.number;
-    r.ts = u8::from(sub) << bg.number;
-    r
+// A scene: the memories, the registers and the background.
+#[derive(Clone, Copy)]
+struct Scene<'a> {
+    vram: &'a [u16],
+    cgram: &'a [u16; 256],
+    regs: PPURegisters,
+    bg: Background,
 }
 
-// The lines of row y, drawn over the backdrops.
-fn shown_lines(
-    vram: &[u16],
-    cgram: &[u16; 256],
-    r: PPURegisters,
-    bg: Background,
-    y: usize,
-) -> Lines {
-    let mut lines = Lines::backdrops(cgram[0], r.coldata);
-    let _ = settle(render_bg_scanline(&mut lines, vram, cgram, r, bg_params(r, bg).params, y));
-    lines
-}
-
-// What column x of row y shows by its candidates alone.
-fn asked(
-    vram: &[u16],
-    cgram: &[u16; 256],
-    r: PPURegisters,
-    bg: Background,
-    x: usize,
-    y: usize,
-) -> Pixels {
-    let before = bare(cgram[0], r.coldata);
-    laid(
-        before,
-        bg_candidates(vram, cgram, r, bg_params(r, bg).params, x, y),
-    )
-}
-
-// A digest of row y at the first column, the last one and four others, which show what these lines
-// have.
-fn some(
-    vram: &[u16],
-    cgram: &[u16; 256],
-    r: PPURegisters,
-    bg: Background,
-    y: usize,
-    lines: &Lines,
-    seed: u32,
-) -> u32 {
-    let mut d: u32 = 0;
-    for k in 0..6 {
-        let x = usize::from(ends(k, 255, nth(k + 1, seed)));
-        let p = asked(vram, cgram, r, bg, x, y);
-        let shown = both(p.main, p.sub);
-        agree(shown == both(lines.main[x], lines.sub[x]));
-        d = fold(d, shown);
+impl Scene<'_> {
+    // The scene with the background lit on these screens alone.
+    fn lit(self, main: bool, sub: bool) -> Self {
+        let mut scene = self;
+        scene.regs.tm = u8::from(main) << self.bg.number;
+        scene.regs.ts = u8::from(sub) << self.bg.number;
+        scene
     }
-    d
-}
 
-// A digest of row y's lines on main alone, on sub alone and on both, and one of some columns.
-fn row(vram: &[u16], cgram: &[u16; 256], r: PPURegisters, bg: Background, y: usize, seed: u32) {
-    let on_main = shown_lines(vram, cgram, lit(r, bg, true, false), bg, y);
-    let on_sub = shown_lines(vram, cgram, lit(r, bg, false, true), bg, y);
-    let r = lit(r, bg, true, true);
-    let on_both = shown_lines(vram, cgram, r, bg, y);
-    let d = folded(folded(folded(0, &on_main), &on_sub), &on_both);
-    hex(u64::from(d), 8, b' ');
-    hex(
-        u64::from(some(vram, cgram, r, bg, y, &on_both, seed)),
-        8,
-        b'\n',
-    );
+    // The lines of row y, drawn over the backdrops.
+    fn lines_of(self, y: usize) -> Lines {
+        let cgram = self.cgram;
+        let mut lines = Lines::backdrops(cgram[0], self.regs.coldata);
+        let params = bg_params(self.regs, self.bg).params;
+        let _ = settle(render_bg_scanline(&mut lines, self.vram, cgram, self.regs, params, y));
+        lines
+    }
+
+    // What column x of row y shows by its candidates alone.
+    fn asked(self, x: usize, y: usize) -> Pixels {
+        let cgram = self.cgram;
+        let before = bare(cgram[0], self.regs.coldata);
+        let params = bg_params(self.regs, self.bg).params;
+        laid(before, bg_candidates(self.vram, cgram, self.regs, params, x, y))
+    }
+
+    // A digest of row y at the first column, the last one and four others, which show what these lines
+    // have.
+    fn some(self, y: usize, lines: &Lines, seed: u32) -> u32 {
+        let mut d: u32 = 0;
+        for k in 0..6 {
+            let x = usize::from(ends(k, 255, nth(k + 1, seed)));
+            let p = self.asked(x, y);
+            let shown = both(p.main, p.sub);
+            agree(shown == both(lines.main[x], lines.sub[x]));
+            d = fold(d, shown);
+        }
+        d
+    }
+
+    // A digest of row y's lines on main alone, on sub alone and on both, and one of some columns.
+    fn row(self, y: usize, seed: u32) {
+        let mut d: u32 = 0;
+        for (main, sub) in [(true, false), (false, true)] {
+            d = folded(d, &self.lit(main, sub).lines_of(y));
+        }
+        let scene = self.lit(true, true);
+        let lines = scene.lines_of(y);
+        hex(u64::from(folded(d, &lines)), 8, b' ');
+        hex(u64::from(scene.some(y, &lines, seed)), 8, b'\n');
+    }
 }
 
 // A scene's line: bgmode, the background, mosaic.
@@ -110,15 +98,22 @@ fn head(bgmode: u8, bg: Background, mosaic: u8) {
 // A scene: its line, and four rows, the first, the last and any, each with its counter. Eight numbers are
 // drawn for each.
 fn one_scene(vram: &[u16], cgram: &[u16; 256], n: u16, seed: u32) {
-    let mut r = scene::registers(n, seed);
-    let bg = scene::background(r.bg_mode(), usize::from(n / 4));
-    head(r.bgmode, bg, r.mosaic);
+    let regs = scene::registers(n, seed);
+    let bg = scene::background(regs.bg_mode(), usize::from(n / 4));
+    head(regs.bgmode, bg, regs.mosaic);
+    let mut scene = Scene {
+        vram,
+        cgram,
+        regs,
+        bg,
+    };
     let mut x = after(18, seed);
     for k in 0..4 {
         let y = ends(k, 223, nth(1, x));
-        r.mosaic_vcounter = (nth(2, x) % 17) as u8;
-        hex(u64::from(y) << 8 | u64::from(r.mosaic_vcounter), 4, b' ');
-        row(vram, cgram, r, bg, usize::from(y), after(2, x));
+        let counter = (nth(2, x) % 17) as u8;
+        scene.regs.mosaic_vcounter = counter;
+        hex(u64::from(y) << 8 | u64::from(counter), 4, b' ');
+        scene.row(usize::from(y), after(2, x));
         x = after(8, x);
     }
 }

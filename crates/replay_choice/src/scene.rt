@@ -1,6 +1,6 @@
 // The sprite memories that are searched.
 use test_replay::drawing::drawn;
-use test_replay::placing::{Place, column, write};
+use test_replay::placing::{Drawn, Place, column, sprites, write};
 
 // A kind of scenes: any column and top; a crowd at the first row; tops from 240 on.
 #[derive(Clone, Copy)]
@@ -27,22 +27,11 @@ fn top(kind: Kind, first: u8, c: u16) -> u16 {
 
 // A scene of a kind, for which 512 numbers are drawn.
 pub(crate) fn fill(kind: Kind, first: u8, seed: u32) -> [u8; 544] {
-    let mut oam = [0u8; 544];
-    let mut x = seed;
-    for i in 0..128 {
-        let n = drawn(x);
-        let x9 = column(place(kind), n.a, n.b);
-        write(
-            &mut oam,
-            i,
-            x9,
-            top(kind, first, n.c),
-            n.d,
-            n.a / 32 % 2 == 1,
-        );
-        x = n.x;
-    }
-    oam
+    sprites(seed, |n| Drawn {
+        place: place(kind),
+        top: top(kind, first, n.c),
+        large: n.a / 32 % 2 == 1,
+    })
 }
 
 // Every sprite left of the picture.

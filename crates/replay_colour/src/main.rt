@@ -4,29 +4,18 @@
 use base_refusal::Refusal;
 use colour::Rgb;
 use test_numbers::{next, word};
+use test_replay::{hex, settle};
 
-// A line of hexadecimal digits.
-fn line(v: u64, digits: usize) {
-    io::print_hex(1, v, digits);
-    io::write_all(1, b"\n");
-}
-
-// The three bytes. A refusal writes a word that no list has.
+// The three bytes.
 fn rgb(answer: Result<Rgb, Refusal>) -> [u8; 3] {
-    match answer {
-        Ok(c) => [c.red, c.green, c.blue],
-        Err(_) => {
-            io::write_all(1, b"refused ");
-            [0; 3]
-        }
-    }
+    settle(answer).map_or([0; 3], |c| [c.red, c.green, c.blue])
 }
 
 // Every index, and for each the eight palettes.
 fn direct() {
     for index in 0..=255u8 {
         for palette in 0..8 {
-            line(u64::from(colour::direct_color(index, palette)), 4);
+            hex(u64::from(colour::direct_color(index, palette)), 4, b'\n');
         }
     }
 }
@@ -36,7 +25,11 @@ fn bright() {
     for level in 0..16 {
         for i in 0..256 {
             let [red, green, blue] = rgb(colour::apply_brightness(i * 257, level));
-            line(u64::from(u32::from_be_bytes([0, red, green, blue])), 6);
+            hex(
+                u64::from(u32::from_be_bytes([0, red, green, blue])),
+                6,
+                b'\n',
+            );
         }
     }
 }
@@ -54,7 +47,7 @@ fn digest(level: u16) -> u32 {
 
 fn digests() {
     for level in 0..16 {
-        line(u64::from(digest(level)), 8);
+        hex(u64::from(digest(level)), 8, b'\n');
     }
 }
 
@@ -73,7 +66,7 @@ fn four(main: u16, sub: u16) -> u64 {
 fn math() {
     for main in 0..32 {
         for sub in 0..32 {
-            line(four(main * 1057, sub * 1057), 16);
+            hex(four(main * 1057, sub * 1057), 16, b'\n');
         }
     }
 }
@@ -86,9 +79,8 @@ fn random() {
         let main = word(x);
         x = next(x);
         let sub = word(x);
-        io::print_hex(1, u64::from(main) << 16 | u64::from(sub), 8);
-        io::write_all(1, b" ");
-        line(four(main, sub), 16);
+        hex(u64::from(main) << 16 | u64::from(sub), 8, b' ');
+        hex(four(main, sub), 16, b'\n');
     }
 }
 

@@ -1,19 +1,20 @@
 // The readers of a background.
-use crate::answers::{bit, print_offset, scrolled, size, word};
-use crate::{digits, line, scattered};
+use crate::answers::{number, print_offset, scrolled, size};
+use crate::scattered;
 use registers::PPURegisters;
 use test_numbers::next;
+use test_replay::hex;
 
 // Map address; character address; 1 if the map is wide, and 2 if it is tall; 1 if the tile side is
 // 16, and 2 if mosaic is on; mosaic block.
 fn show(r: PPURegisters, bg: usize) {
-    digits(word(registers_bg::bg_tilemap_addr(r, bg)), 4);
-    digits(word(registers_bg::bg_tiledata_addr(r, bg)), 4);
-    digits(size(registers_bg::bg_tilemap_size(r, bg)), 1);
-    let tile16 = bit(registers_bg::bg_tile16(r, bg));
-    let mosaic = bit(registers_mosaic::bg_mosaic(r, bg));
-    digits(mosaic << 1 | tile16, 1);
-    line(word(registers_mosaic::bg_mosaic_block(r, bg)), 2);
+    io::print_hex(1, number(registers_bg::bg_tilemap_addr(r, bg)), 4);
+    io::print_hex(1, number(registers_bg::bg_tiledata_addr(r, bg)), 4);
+    io::print_hex(1, size(registers_bg::bg_tilemap_size(r, bg)), 1);
+    let tile16 = number(registers_bg::bg_tile16(r, bg));
+    let mosaic = number(registers_mosaic::bg_mosaic(r, bg));
+    io::print_hex(1, mosaic << 1 | tile16, 1);
+    hex(number(registers_mosaic::bg_mosaic_block(r, bg)), 2, b'\n');
 }
 
 pub(crate) fn backgrounds() {
@@ -38,10 +39,11 @@ fn offsets(r: PPURegisters) {
 pub(crate) fn counters() {
     for size in 0..16u8 {
         for counter in 0..17u8 {
-            let mut r = PPURegisters::new();
-            r.mosaic = size << 4 | (size + counter) % 16;
-            r.mosaic_vcounter = counter;
-            offsets(r);
+            offsets(PPURegisters {
+                mosaic: size << 4 | (size + counter) % 16,
+                mosaic_vcounter: counter,
+                ..PPURegisters::new()
+            });
         }
     }
 }
@@ -54,12 +56,13 @@ fn drawn(x: &mut u32) -> u16 {
 
 // Registers whose scrolls are drawn.
 fn draw(x: &mut u32) -> PPURegisters {
-    let mut r = PPURegisters::new();
-    r.bg1hofs = drawn(x);
-    r.bghofs = [drawn(x), drawn(x), drawn(x)];
-    r.bg1vofs = drawn(x);
-    r.bgvofs = [drawn(x), drawn(x), drawn(x)];
-    r
+    PPURegisters {
+        bg1hofs: drawn(x),
+        bghofs: [drawn(x), drawn(x), drawn(x)],
+        bg1vofs: drawn(x),
+        bgvofs: [drawn(x), drawn(x), drawn(x)],
+        ..PPURegisters::new()
+    }
 }
 
 pub(crate) fn scroll() {
@@ -67,7 +70,7 @@ pub(crate) fn scroll() {
     for _ in 0..48u32 {
         let r = draw(&mut x);
         for bg in 0..4 {
-            line(scrolled(registers_bg::bg_scroll(r, bg)), 8);
+            hex(scrolled(registers_bg::bg_scroll(r, bg)), 8, b'\n');
         }
     }
 }

@@ -1,7 +1,7 @@
 // The windows at ten layouts of their edges.
-use crate::answers::bit;
-use crate::{digits, line};
+use crate::answers::number;
 use registers::PPURegisters;
+use test_replay::hex;
 
 // The left and right edges of window 1 and of window 2, and what the other windows' bits of the
 // registers are filled with.
@@ -52,26 +52,30 @@ fn window(edges: [u8; 4], fill: u8, which: usize, bits: u8, by: u8) -> PPURegist
         let at = which % 4 * 2;
         *logic = *logic & !(0x03 << at) | by << at;
     }
-    let mut r = PPURegisters::new();
-    r.wh0 = edges[0];
-    r.wh1 = edges[1];
-    r.wh2 = edges[2];
-    r.wh3 = edges[3];
-    r.w12sel = selects[0];
-    r.w34sel = selects[1];
-    r.wobjsel = selects[2];
-    r.wbglog = logics[0];
-    r.wobjlog = logics[1];
-    r
+    let [wh0, wh1, wh2, wh3] = edges;
+    let [w12sel, w34sel, wobjsel] = selects;
+    let [wbglog, wobjlog] = logics;
+    PPURegisters {
+        wh0,
+        wh1,
+        wh2,
+        wh3,
+        w12sel,
+        w34sel,
+        wobjsel,
+        wbglog,
+        wobjlog,
+        ..PPURegisters::new()
+    }
 }
 
 fn says(r: PPURegisters, asked: Asked, x: usize) -> u64 {
     match asked {
-        Asked::Background(bg) => bit(registers_windows::bg_window_masked(r, bg, x)),
-        Asked::Sprites => bit(registers_windows::obj_window_masked(r, x)),
-        Asked::Colour => bit(registers_windows::in_color_window(r, x)),
-        Asked::First => bit(registers_windows::in_window1(r, x)),
-        Asked::Second => bit(registers_windows::in_window2(r, x)),
+        Asked::Background(bg) => number(registers_windows::bg_window_masked(r, bg, x)),
+        Asked::Sprites => number(registers_windows::obj_window_masked(r, x)),
+        Asked::Colour => number(registers_windows::in_color_window(r, x)),
+        Asked::First => number(registers_windows::in_window1(r, x)),
+        Asked::Second => number(registers_windows::in_window2(r, x)),
     }
 }
 
@@ -93,12 +97,16 @@ fn columns(r: PPURegisters, asked: Asked) -> u64 {
 // Window 1 and window 2; then every window at each logic, and for each the sixteen settings.
 fn show(edges: [u8; 4], fill: u8) {
     let plain = window(edges, fill, 0, 0, 0);
-    digits(columns(plain, Asked::First), 4);
-    line(columns(plain, Asked::Second), 4);
+    io::print_hex(1, columns(plain, Asked::First), 4);
+    hex(columns(plain, Asked::Second), 4, b'\n');
     for (which, asked) in WINDOWS.into_iter().enumerate() {
         for by in 0..4 {
             for bits in 0..16 {
-                line(columns(window(edges, fill, which, bits, by), asked), 4);
+                hex(
+                    columns(window(edges, fill, which, bits, by), asked),
+                    4,
+                    b'\n',
+                );
             }
         }
     }

@@ -1,8 +1,9 @@
 // The readers of the whole screen.
-use crate::answers::bit;
-use crate::{digits, line, scattered};
+use crate::answers::number;
+use crate::scattered;
 use base_refusal::Refusal;
 use registers::PPURegisters;
+use test_replay::hex;
 
 // The bits of five layers, BG1's the lowest.
 fn layers<F: Fn(usize) -> Result<bool, Refusal>>(lit: F) -> u64
@@ -10,7 +11,7 @@ fn layers<F: Fn(usize) -> Result<bool, Refusal>>(lit: F) -> u64
 {
     let mut bits: u64 = 0;
     for layer in (0..5).rev() {
-        bits = bits << 1 | bit(lit(layer));
+        bits = bits << 1 | number(lit(layer));
     }
     bits
 }
@@ -18,16 +19,16 @@ fn layers<F: Fn(usize) -> Result<bool, Refusal>>(lit: F) -> u64
 // Mode, direct colour, forced blank, brightness, sprite interlace; mosaic size; the layers of tm,
 // ts, tmw, tsw.
 fn show(r: PPURegisters) {
-    digits(u64::from(r.bg_mode()), 1);
-    digits(u64::from(r.direct_color()), 1);
-    digits(u64::from(r.force_blank()), 1);
-    digits(u64::from(r.brightness()), 1);
-    digits(u64::from(r.obj_interlace()), 1);
-    digits(u64::from(registers_mosaic::mosaic_size(r)), 2);
-    digits(layers(|layer| r.to_main(layer)), 2);
-    digits(layers(|layer| r.to_sub(layer)), 2);
-    digits(layers(|layer| r.win_main(layer)), 2);
-    line(layers(|layer| r.win_sub(layer)), 2);
+    io::print_hex(1, u64::from(r.bg_mode()), 1);
+    io::print_hex(1, u64::from(r.direct_color()), 1);
+    io::print_hex(1, u64::from(r.force_blank()), 1);
+    io::print_hex(1, u64::from(r.brightness()), 1);
+    io::print_hex(1, u64::from(r.obj_interlace()), 1);
+    io::print_hex(1, u64::from(registers_mosaic::mosaic_size(r)), 2);
+    io::print_hex(1, layers(|layer| r.to_main(layer)), 2);
+    io::print_hex(1, layers(|layer| r.to_sub(layer)), 2);
+    io::print_hex(1, layers(|layer| r.win_main(layer)), 2);
+    hex(layers(|layer| r.win_sub(layer)), 2, b'\n');
 }
 
 pub(crate) fn screen() {

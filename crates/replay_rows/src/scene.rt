@@ -1,9 +1,9 @@
 // A scene, its registers, of every value, and its sprites.
 use crate::kinds::Kind;
 use registers::PPURegisters;
-use test_replay::drawing::{drawn, nth};
-use test_replay::placing::{Place, column, write};
-use test_replay::section;
+use test_replay::drawing::nth;
+use test_replay::placing::{Drawn, Place};
+use test_replay::{placing, section};
 
 // A scene: the memories and the registers.
 #[derive(Clone, Copy)]
@@ -65,20 +65,12 @@ fn top(kind: Kind, turn: u8, c: u16) -> u16 {
 
 // Sprite memory, for which 512 numbers are drawn.
 pub(crate) fn sprites(kind: Kind, turn: u8, seed: u32) -> [u8; 544] {
-    let mut oam = [0u8; 544];
-    let mut x = seed;
-    for i in 0..128 {
-        let n = drawn(x);
-        let x9 = column(place(kind, n.a), n.a, n.b);
-        write(
-            &mut oam,
-            i,
-            x9,
-            top(kind, turn, n.c),
-            n.d,
-            n.a / 32 % 2 == 1,
-        );
-        x = n.x;
-    }
-    oam
+    placing::sprites(
+        seed,
+        |n| Drawn {
+            place: place(kind, n.a),
+            top: top(kind, turn, n.c),
+            large: n.a / 32 % 2 == 1,
+        },
+    )
 }

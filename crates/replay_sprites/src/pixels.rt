@@ -53,9 +53,9 @@ pub(crate) fn line_digest(line: &[Candidate; 256], backdrop: LinePixel) -> u32 {
 // A digest with all of two lines, on which the sprite line was laid.
 pub(crate) fn folded(digest: u32, lines: &Lines, line: &[Candidate; 256]) -> u32 {
     let mut d = digest;
-    for x in 0..256 {
-        under(lines.sub[x], line[x]);
-        d = fold(d, both(lines.main[x], lines.sub[x]));
+    for ((main, sub), c) in lines.main.iter().zip(&lines.sub).zip(line) {
+        under(*sub, *c);
+        d = fold(d, both(*main, *sub));
     }
     d
 }

@@ -1,7 +1,7 @@
 // The registers and the sprites of a scene.
 use registers::PPURegisters;
-use test_replay::drawing::{drawn, ends, low};
-use test_replay::placing::{Place, column, write};
+use test_replay::drawing::{ends, low};
+use test_replay::placing::{Drawn, Place, sprites};
 use test_replay::section;
 
 // Which bytes of the numbers drawn the registers have: objsel and setini, the windows of sprites, tmw, tsw
@@ -80,15 +80,12 @@ fn top(kind: Kind, first: u8, c: u16) -> u16 {
 // The sprites of a scene, of which a part is hidden; in some scenes all are small. 512 numbers are
 // drawn.
 pub(crate) fn fill(kind: Kind, first: u8, about: u16, seed: u32) -> [u8; 544] {
-    let mut oam = [0u8; 544];
-    let mut x = seed;
-    for i in 0..128 {
-        let n = drawn(x);
+    sprites(seed, |n| {
         let hidden = (kind != Kind::Any) & (n.a / 64 % 16 > about % 16);
-        let x9 = column(place(kind, hidden), n.a, n.b);
-        let large = (about / 16 % 4 != 0) & (n.a / 32 % 2 == 1);
-        write(&mut oam, i, x9, top(kind, first, n.c), n.d, large);
-        x = n.x;
-    }
-    oam
+        Drawn {
+            place: place(kind, hidden),
+            top: top(kind, first, n.c),
+            large: (about / 16 % 4 != 0) & (n.a / 32 % 2 == 1),
+        }
+    })
 }

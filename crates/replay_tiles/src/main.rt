@@ -3,22 +3,11 @@
 
 use base_refusal::Refusal;
 use test_numbers::{next, word};
+use test_replay::{hex, settle};
 
-// A line of hexadecimal digits.
-fn line(v: u64, digits: usize) {
-    io::print_hex(1, v, digits);
-    io::write_all(1, b"\n");
-}
-
-// The colour index. A refusal writes a word that no list has.
+// The colour index.
 fn index(answer: Result<u8, Refusal>) -> u64 {
-    match answer {
-        Ok(n) => u64::from(n),
-        Err(_) => {
-            io::write_all(1, b"refused ");
-            0
-        }
-    }
+    settle(answer).map_or(0, u64::from)
 }
 
 fn fill(vram: &mut [u16]) {
@@ -52,9 +41,8 @@ fn large_row(vram: &[u16], base: usize, y: usize) -> u64 {
 // A tile's eight rows.
 fn rows(vram: &[u16], base: usize) {
     for y in 0..8 {
-        io::print_hex(1, small_row(vram, base, y), 16);
-        io::write_all(1, b" ");
-        line(large_row(vram, base, y), 16);
+        hex(small_row(vram, base, y), 16, b' ');
+        hex(large_row(vram, base, y), 16, b'\n');
     }
 }
 
@@ -77,7 +65,7 @@ fn pixel(vram: &[u16], base: usize, x: usize, y: usize) {
     let four = index(tiles::decode_4bpp_tile_pixel_from(vram, base, x, y));
     let eight = index(tiles::decode_8bpp_tile_pixel_from(vram, base, x, y));
     let place = (base << 8 | x << 4 | y) as u64;
-    line(place << 16 | two << 12 | four << 8 | eight, 10);
+    hex(place << 16 | two << 12 | four << 8 | eight, 10, b'\n');
 }
 
 fn random(vram: &[u16]) {

@@ -2,6 +2,7 @@ pub mod Replay
 pub mod Drawing
 pub mod Memory
 pub mod Placing
+pub mod Sprites
 pub mod Section
 pub mod Pixels
 pub mod theorems

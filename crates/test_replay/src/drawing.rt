@@ -51,9 +51,9 @@ pub fn words(seed: u32) -> [u16; 256]
 {
     let mut all = [0u16; 256];
     let mut x = seed;
-    for i in 0..256usize {
+    for held in &mut all {
         x = next(x);
-        all[i] = word(x);
+        *held = word(x);
     }
     all
 }

@@ -85,10 +85,10 @@ pub fn vram(filling: Filling, seed: u32) -> [u16; 32768]
 {
     let mut words = [0u16; 32768];
     let mut x = seed;
-    for i in 0..32768usize {
+    for (i, place) in words.iter_mut().enumerate() {
         let a = next(x);
         x = next(a);
-        words[i] = held(filling, i, word(a), word(x));
+        *place = held(filling, i, word(a), word(x));
     }
     words
 }

@@ -1,8 +1,9 @@
 // The sprites of a scene.
-ghost use Rattle.std.specs.Prelude.{◌≡◌, ◌%◌};
+ghost use Rattle.std.specs.Prelude.{ℕ, ◌≡◌, ◌%◌};
 ghost use Rattle.test_replay.specs.Placing.{beside_of, column_of, with_of};
+ghost use Rattle.test_replay.specs.Sprites.{numbers_of, sprites_of};
 
-use crate::drawing::{high, low};
+use crate::drawing::{Four, drawn, high, low};
 use test_digest::second_table_byte;
 
 // Where a sprite stands: at any column; at a column at which a rule changes for some width, or beside
@@ -57,4 +58,29 @@ pub fn write(oam: &mut [u8; 544], sprite: usize, x9: u16, top: u16, d: u16, larg
     oam[i * 4 + 1] = low(top);
     oam[i * 4 + 2] = low(d);
     oam[i * 4 + 3] = high(d);
+}
+
+// What is drawn of a sprite: where it stands, its top and its size.
+#[derive(Clone, Copy)]
+pub struct Drawn {
+    pub place: Place,
+    pub top: u16,
+    pub large: bool,
+}
+
+// Sprite memory, for which four numbers are drawn for each sprite: its column, what `of` makes of them,
+// its tile and its attributes.
+pub fn sprites<F: Fn(Four) -> Drawn>(seed: u32, of: F) -> [u8; 544]
+    requires { F.IsAlwaysCallable of }
+    ensures { (g : ℕ → Drawn) → ((k : ℕ) → (d : Drawn) → F.post of (numbers_of k seed) d → d ≡ g k) → result ≡ sprites_of g seed }
+{
+    let mut oam = [0u8; 544];
+    let mut x = seed;
+    for i in 0..128 {
+        let n = drawn(x);
+        let d = of(n);
+        write(&mut oam, i, column(d.place, n.a, n.b), d.top, n.d, d.large);
+        x = n.x;
+    }
+    oam
 }

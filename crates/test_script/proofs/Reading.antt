@@ -1,18 +1,22 @@
 -- A word's digits, one by one, and its beginning.
-use Prim.Native.Nat.{ℕ, suc, ◌+◌, ◌*◌, ◌^◌, ◌<◌, ◌≤◌}
-use mathlib.Core.Path.{◌≡◌, refl}
-use mathlib.Core.Bool.{Bool, true, false, cond, ◌&&◌, and-false}
+use Prim.Native.Nat.{ℕ, suc, ◌+◌, ◌-◌, ◌*◌, ◌^◌, ◌<◌, ◌≤◌}
+use mathlib.Core.Path.{◌≡◌, refl, sym, ap, ◌∙◌}
+use mathlib.Core.Logic.{◌⊎◌, inl, inr}
+use mathlib.Core.Bool.{Bool, true, false, cond, ◌&&◌, and-false, and-true}
 use mathlib.Core.List.{List, [], ◌∷◌}
 use native.Mathlib.Omega.{arith}
-use native.Mathlib.Nat.{add-zero, le-mul_of_pos_right}
+use native.Mathlib.Nat.{le-mul_of_pos_right}
 use native.Mathlib.Numerals.{add-one}
-use lib.Dec.{ltb, eqb}
-use lib.ListN.{length, get_or, take, length-take, length-drop, drop_of_length-le, get_or-eq_default}
+use lib.Dec.{ltb, leb, eqb}
+use lib.ListN.{length, get_or, take, drop, length-take, drop_of_length-le}
+use lib.Pointwise.{pointwise}
 use Rattle.std.specs.Prelude.{Option, Some, None}
-use lib.Seq.{slice, slice_empty, slice-cons, drop-drop, get_or-drop, get_or-take}
-use borrow.Author.Tests.{ltb-true, ltb-false, lt-ltb, le-ltb, le-leb}
+use Rattle.std.proofs.lemmas.Option.{none-some, cond_some}
+use Rattle.std.proofs.lemmas.List.{drop-take}
+use lib.Seq.{slice, drop-cons}
+use borrow.Author.Tests.{eqb-true, eqb-false, ltb-true, ltb-false, lt-ltb, le-ltb, le-leb, lt-leb}
 use Rattle.test_script.specs.Number.{digit_of, are_digits, behind, number_where, digits_of, is_hex, word_number, number_between}
-use Rattle.test_script.specs.steps.Number.{more_of}
+use Rattle.test_script.specs.steps.Number.{digit_if, more_of}
 
 -- what the digits l say behind the number n
 unfoldable pub read_on : ℕ → List ℕ → ℕ → Option ℕ
@@ -49,43 +53,76 @@ module _ (base b : ℕ) (l : List ℕ) (n : ℕ) where
   unfolding are_digits behind read_on
   one_digit = by_tests (ltb (digit_of b) base) (ltb (n * base + digit_of b) (2 ^ 64)) refl refl
 
-module _ (s : List ℕ) (from to : ℕ) where
-  pub no_digit : to ≤ from → (base : ℕ) → digits_of base (slice from to s) ≡ None
+module _ (base : ℕ) where
+  pub no_digit : (w : List ℕ) → eqb (length w) 0 ≡ true → None ≡ digits_of base w
   unfolding digits_of
-  no_digit h base =
-      let short : length (take to s) ≤ from = rw length-take (omega arith) in
-      rw (drop_of_length-le (take to s) short)
+  no_digit [] e = refl
+  no_digit (b ∷ w) e = absurd (omega (arith, eqb-true _ _ e))
 
-  -- a word begins with `0x`, or is too short to
-  pub hex_at : from + 1 < to → is_hex (slice from to s) ≡ eqb (get_or s from 0) 48 && eqb (get_or s (from + 1) 0) 120
-  hex_at h =
-      let a : get_or (slice from to s) 0 0 ≡ get_or s from 0 = rw (get_or-drop, add-zero) (get_or-take to s from 0 (omega arith)) in
-      let b : get_or (slice from to s) 1 0 ≡ get_or s (from + 1) 0 = rw get_or-drop (get_or-take to s (from + 1) 0 h) in
-      rw (a, b)
+  pub first_digit : (w : List ℕ) → eqb (length w) 0 ≡ false → read_on base w 0 ≡ digits_of base w
+  unfolding digits_of read_on
+  first_digit [] e = absurd (eqb-false 0 0 e refl)
+  first_digit (b ∷ w) e = refl
 
-  pub hex_short : to ≤ from + 1 → is_hex (slice from to s) ≡ false
-  hex_short h =
-      let short : length (slice from to s) ≤ 1 = simp (length-drop, length-take) (omega arith) in
-      rw (get_or-eq_default (slice from to s) 0 short, and-false)
+  pub last_digit : (w : List ℕ) (i n : ℕ) → length w ≤ i → n < 2 ^ 64 → read_on base (drop i w) n ≡ Some n
+  unfolding are_digits behind read_on
+  last_digit w i n e h = rw (drop_of_length-le w e, lt-ltb _ _ h)
 
-  module _ (within : to ≤ length s) where
-    pub by_hexadecimal : is_hex (slice from to s) ≡ true → digits_of 16 (slice (from + 2) to s) ≡ number_between s from to
-    unfolding word_number number_between
-    by_hexadecimal e = rw (le-leb _ _ within, e, drop-drop)
+  module _ (small : base ≤ 16) (b n : ℕ) where
+    -- a byte that is no digit in any base is none in this one
+    no_more : (t : Bool) → ltb (digit_of b) 16 ≡ t → cond t (Some (digit_of b)) None ≡ None → more_of n (digit_of b) base ≡ None
+    no_more true e f = absurd (none-some _ (sym f))
+    no_more false e f =
+        let large : 16 ≤ digit_of b = ltb-false _ _ e in
+        rw (le-ltb (digit_of b) base (omega arith))
 
-    pub by_decimal : is_hex (slice from to s) ≡ false → digits_of 10 (slice from to s) ≡ number_between s from to
-    unfolding word_number number_between
-    by_decimal e = rw (le-leb _ _ within, e)
+    pub no_other : digit_if b ≡ None → more_of n (digit_of b) base ≡ None
+    no_other f = no_more (ltb (digit_of b) 16) refl f
 
-    module _ (base : ℕ) (h : from < to) where
-      pub first_digit : read_on base (slice from to s) 0 ≡ digits_of base (slice from to s)
-      unfolding digits_of read_on
-      first_digit = rw (slice-cons from to s 0 h within)
+    pub the_digit : (d : ℕ) → digit_if b ≡ Some d → more_of n d base ≡ more_of n (digit_of b) base
+    the_digit d f = ap (λ (k : ℕ). more_of n k base) (sym (cond_some _ _ _ f).1)
 
-      pub next_digit : (n : ℕ) →
-          read_on base (slice from to s) n ≡ onward base (slice (from + 1) to s) (more_of n (digit_of (get_or s from 0)) base)
-      next_digit n = rw (slice-cons from to s 0 h within, add-one from) (one_digit base (get_or s from 0) (slice (suc from) to s) n)
+  pub next_digit : (w : List ℕ) (i n : ℕ) → i < length w →
+      read_on base (drop i w) n ≡ onward base (drop (i + 1) w) (more_of n (digit_of (get_or w i 0)) base)
+  next_digit w i n h = rw (drop-cons w i 0 h, add-one i) (one_digit base (get_or w i 0) (drop (suc i) w) n)
 
-pub last_digit : (s : List ℕ) (i to base n : ℕ) → i ≡ to → n < 2 ^ 64 → read_on base (slice i to s) n ≡ Some n
-unfolding are_digits behind read_on
-last_digit s i to base n e h = rw (e, slice_empty to s, lt-ltb _ _ h)
+-- a word begins with `0x`
+hex_front : (w : List ℕ) → pointwise eqb (take 2 w) (48 ∷ 120 ∷ []) ≡ is_hex w
+hex_front [] = refl
+hex_front (a ∷ []) = refl
+hex_front (a ∷ b ∷ w) = rw and-true refl
+
+module _ (s : List ℕ) (from to : ℕ) (h : from ≤ to) (within : to ≤ length s) {w : List ℕ} (e : w ≡ take (to - from) (drop from s)) where
+  by_word : word_number w ≡ number_between s from to
+  unfolding number_between
+  by_word =
+      let all : from + (to - from) ≡ to = omega arith in
+      let word : w ≡ slice from to s = e ∙ (sym (drop-take from (to - from) s) ∙ ap (λ (k : ℕ). drop from (take k s)) all) in
+      rw (le-leb _ _ within, word)
+
+  pub by_hexadecimal : {x : List ℕ} → pointwise eqb (take 2 w) (48 ∷ 120 ∷ []) ≡ true → x ≡ drop 2 w →
+      digits_of 16 x ≡ number_between s from to
+  unfolding word_number
+  by_hexadecimal t f =
+      let hex : is_hex w ≡ true = sym (hex_front w) ∙ t in
+      let here : digits_of 16 (drop 2 w) ≡ word_number w = rw hex in
+      ap (digits_of 16) f ∙ (here ∙ by_word)
+
+  pub by_decimal : pointwise eqb (take 2 w) (48 ∷ 120 ∷ []) ≡ false → digits_of 10 w ≡ number_between s from to
+  unfolding word_number
+  by_decimal t =
+      let plain : is_hex w ≡ false = sym (hex_front w) ∙ t in
+      let here : digits_of 10 w ≡ word_number w = rw plain in
+      here ∙ by_word
+
+pub no_word : (s : List ℕ) (from to : ℕ) → (to < from) ⊎ (length s < to) → None ≡ number_between s from to
+unfolding digits_of word_number number_between
+no_word s from to (inr h) = rw (lt-leb _ _ h)
+no_word s from to (inl h) = by_test (leb to (length s))
+  where
+    short : length (take to s) ≤ from
+    short = rw length-take (omega arith)
+
+    by_test : (t : Bool) → None ≡ cond t (word_number (slice from to s)) None
+    by_test true = rw (drop_of_length-le (take to s) short)
+    by_test false = refl

@@ -2,11 +2,10 @@
 // that it is, and its place in a list of names.
 #![tactic(auto)]
 
-ghost use Rattle.std.specs.Prelude.{◌≡◌, true, ◌+◌, ◌<◌, ◌≤◌, length};
-ghost use Rattle.std.proofs.Math.Seq.{slice};
+ghost use Rattle.std.specs.Prelude.{◌≡◌, ◌≤◌};
 ghost use Rattle.test_script.specs.Seek.{is_blank, stops_at, seek_of};
-ghost use Rattle.test_script.specs.Number.{digit_of, digits_of, is_hex, number_between};
-ghost use Rattle.test_script.specs.steps.Number.{more_of};
+ghost use Rattle.test_script.specs.Number.{digits_of, number_between};
+ghost use Rattle.test_script.specs.steps.Number.{digit_if, more_of};
 ghost use Rattle.test_script.specs.Names.{place_between};
 ghost use Rattle.test_script.specs.steps.Names.{goes_on};
 
@@ -25,7 +24,7 @@ pub enum Stop {
 fn blank(b: u8) -> bool
     ensures { result ≡ is_blank b }
 {
-    (b == 32) | (b == 9) | (b == 13)
+    matches!(b, b' ' | b'\t' | b'\r')
 }
 
 // Does a search for `stop` stop at b?
@@ -34,8 +33,8 @@ fn stops(stop: Stop, b: u8) -> bool
 {
     match stop {
         Stop::Word => !blank(b),
-        Stop::End => blank(b) | (b == 10) | (b == 59) | (b == 35),
-        Stop::Line => b == 10,
+        Stop::End => blank(b) | matches!(b, b'\n' | b';' | b'#'),
+        Stop::Line => b == b'\n',
     }
 }
 
@@ -52,60 +51,42 @@ pub fn seek(s: &[u8], from: usize, stop: Stop) -> usize
     s.len()
 }
 
-// The digit that b is, 16 where it is none.
-fn digit(b: u8) -> u64
-    ensures { result ≡ digit_of b }
+// The digit that b is.
+#[tactic(auto, unfolding(crate::specs::Number::digit_of))]
+fn digit(b: u8) -> Option<u64>
+    ensures { result ≡ digit_if b }
 {
-    if (48 <= b) & (b <= 57) {
-        return b as u64 - 48;
+    match b {
+        b'0'..=b'9' => Some(u64::from(b - b'0')),
+        b'A'..=b'F' => Some(u64::from(b - b'A') + 10),
+        b'a'..=b'f' => Some(u64::from(b - b'a') + 10),
+        _ => None,
     }
-    if (65 <= b) & (b <= 70) {
-        return b as u64 - 55;
-    }
-    if (97 <= b) & (b <= 102) {
-        return b as u64 - 87;
-    }
-    16
 }
 
 // The number n with one more digit d behind it, where d is a digit of the base and 64 bits hold it.
 fn more(n: u64, d: u64, base: u64) -> Option<u64>
     ensures { result ≡ more_of n d base }
 {
-    if d < base {
-        if n <= (18446744073709551615 - d) / base {
-            return Some(n * base + d);
-        }
+    if d >= base {
+        return None;
     }
-    None
+    n.checked_mul(base)?.checked_add(d)
 }
 
-// The number that the bytes from `from` to before `to` are, as digits of the base, at least one.
-fn digits(s: &[u8], from: usize, to: usize, base: u64) -> Option<u64>
-    requires { to ≤ length s.now }
-    ensures { result ≡ digits_of base (slice from to s.now) }
+// The number that a word is, as digits of the base, at least one.
+fn digits(word: &[u8], base: u64) -> Option<u64>
+    requires { base ≤ 16 }
+    ensures { result ≡ digits_of base word.now }
 {
-    if from >= to {
+    if word.is_empty() {
         return None;
     }
     let mut n: u64 = 0;
-    for i in from..to {
-        n = more(n, digit(s[i]), base)?;
+    for &b in word {
+        n = more(n, digit(b)?, base)?;
     }
     Some(n)
-}
-
-// Does the word from `from` to before `to` begin with `0x`?
-fn hexadecimal(s: &[u8], from: usize, to: usize) -> bool
-    requires { to ≤ length s.now }
-    ensures { (result ≡ is_hex (slice from to s.now)) × (result ≡ true → from + 1 < to) }
-{
-    if from < to {
-        if from + 1 < to {
-            return (s[from] == 48) & (s[from + 1] == 120);
-        }
-    }
-    false
 }
 
 // The number that the bytes from `from` to before `to` are: decimal digits, or `0x` and hexadecimal
@@ -113,23 +94,18 @@ fn hexadecimal(s: &[u8], from: usize, to: usize) -> bool
 pub fn number(s: &[u8], from: usize, to: usize) -> Option<u64>
     ensures { result ≡ number_between s.now from to }
 {
-    if to > s.len() {
-        return None;
+    let word = s.get(from..to)?;
+    match word.strip_prefix(b"0x") {
+        Some(hexadecimal) => digits(hexadecimal, 16),
+        None => digits(word, 10),
     }
-    if hexadecimal(s, from, to) {
-        return digits(s, from + 2, to, 16);
-    }
-    digits(s, from, to, 10)
 }
 
 // Is b the byte of s at `at`, before `to`?
 fn goes_on(s: &[u8], at: usize, to: usize, b: u8) -> bool
     ensures { result ≡ goes_on s.now at to b }
 {
-    if (at < to) & (at < s.len()) {
-        return s[at] == b;
-    }
-    false
+    (at < to) && s.get(at) == Some(&b)
 }
 
 // The place, counted from 0, of the word s[from..to] in a list of names that are separated by one
@@ -143,7 +119,7 @@ pub fn place(names: &[u8], s: &[u8], from: usize, to: usize) -> usize
     let mut at = from;
     let mut live = good;
     for &b in names {
-        if b == 32 {
+        if b == b' ' {
             if live & (at == to) {
                 return k;
             }

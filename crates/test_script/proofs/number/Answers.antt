@@ -1,25 +1,17 @@
-use mathlib.Core.Path.{sym, ◌∙◌}
-use native.Mathlib.Omega.{arith}
-use borrow.Author.Tests.{lt-leb}
-use Rattle.test_script.specs.Number.{number_between}
-use Rattle.test_script.proofs.Reading.{by_hexadecimal, by_decimal}
+use mathlib.Core.Path.{◌∙◌}
+use Rattle.test_script.proofs.Reading.{by_hexadecimal, by_decimal, no_word}
 use Rattle.test_script.proofs.number.Goals as goal
 
-pub returns-then-to-s : goal.returns-then-to-s
-unfolding number_between
-returns-then-to-s c = simp (lt-leb _ _ c.if-to-s.true)
+pub returns-in_err-word : goal.returns-in_err-word
+returns-in_err-word c = c.from_residual.ensures ∙ no_word _ _ _ c.in_err-word.ensures.lookup.0
 
-pub overflow_add-from : goal.overflow_add-from
-overflow_add-from c =
-    let long = c.hexadecimal.ensures.1 c.if-hexadecimal.true in
-    omega arith
+pub returns-in-Some : goal.returns-in-Some
+returns-in-Some c =
+    let word = c.in_ok-word.ensures.lookup.0 in
+    let rest = c.in-Some.ensures.cases in
+    c.digits.ensures ∙ by_hexadecimal _ _ _ word.0 word.1 word.2 rest.0 rest.1
 
-pub returns-then-hexadecimal : goal.returns-then-hexadecimal
-returns-then-hexadecimal c =
-    let hex = c.hexadecimal.ensures.0 in
-    c.digits.ensures ∙ by_hexadecimal _ _ _ c.if-to-s.false (sym hex ∙ c.if-hexadecimal.true)
-
-pub returns : goal.returns
-returns c =
-    let hex = c.hexadecimal.ensures.0 in
-    c.digits-2.ensures ∙ by_decimal _ _ _ c.if-to-s.false (sym hex ∙ c.if-hexadecimal.false)
+pub returns-in-None : goal.returns-in-None
+returns-in-None c =
+    let word = c.in_ok-word.ensures.lookup.0 in
+    c.digits-in-None.ensures ∙ by_decimal _ _ _ word.0 word.1 word.2 c.in-None.ensures.cases

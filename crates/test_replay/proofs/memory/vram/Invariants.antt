@@ -7,7 +7,7 @@ use Rattle.test_replay.proofs.memory.vram.Given as goal
 
 abbrev pub invariant-loop-i : goal.invariant-loop-i
 invariant-loop-i l =
-    Front 32768 (λ k. held_of l.filling k (drawn_word (k * 2 + 1) l.seed) (drawn_word (k * 2 + 2) l.seed)) l.words l.i × (l.x ≡ after_of (l.i * 2) l.seed)
+    Front 32768 (λ k. held_of l.filling k (drawn_word (k * 2 + 1) l.seed) (drawn_word (k * 2 + 2) l.seed)) l.place-items l.i × (l.x ≡ after_of (l.i * 2) l.seed)
 
 abbrev pub decreases-loop-i : goal.decreases-loop-i
 decreases-loop-i l = 32768 - l.i
