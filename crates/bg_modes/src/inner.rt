@@ -5,8 +5,7 @@ ghost use Rattle.bg_modes.specs.Modes.{mode1, lacks, bg_mode_of, params_of};
 use crate::BgMode;
 use bg_map::BgParams;
 use bg_map::inner::BgDrawn;
-use line_pixels::Priority;
-use line_pixels::inner::from_bg;
+use line_pixels::{Layer, Priority};
 use registers::PPURegisters;
 use registers::background::Background;
 use registers::inner::bit;
@@ -159,7 +158,7 @@ pub fn bg_params(r: PPURegisters, bg: Background) -> BgDrawn
         mosaic: bg_mosaic(r, bg),
         z_low: Priority::new(mode.low),
         z_high: Priority::new(mode.high),
-        layer: from_bg(bg),
+        layer: Layer::from(bg),
         to_main: mode.present & bit(r.tm, bg.number),
         to_sub: mode.present & bit(r.ts, bg.number),
     };

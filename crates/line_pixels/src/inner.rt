@@ -1,22 +1,9 @@
 // What the public calls of this crate stand on, for the crates above. A pixel is picked field by
 // field: a select, not a branch.
 ghost use Rattle.std.specs.Prelude.{◌≡◌, cond, ◌+◌, ◌<◌, ◌≤◌};
-ghost use Rattle.line_pixels.specs.Pixels.{layer_of, background_of};
+ghost use Rattle.line_pixels.specs.Pixels.{background_of};
 
 use crate::{Layer, LinePixel, Priority};
-use registers::background::Background;
-
-// The layer of background bg.
-pub fn from_bg(bg: Background) -> Layer
-    ensures { result ≡ layer_of bg.number }
-{
-    match bg.number {
-        0 => Layer::Bg1,
-        1 => Layer::Bg2,
-        2 => Layer::Bg3,
-        _ => Layer::Bg4,
-    }
-}
 
 // The number of a layer's background; 4, which no background has, for the backdrop and the sprites.
 pub fn bg_index(layer: Layer) -> usize

@@ -29,7 +29,20 @@ impl Layer {
     pub fn from_bg(bg: usize) -> Result<Layer, Refusal>
         ensures { means result ≡ of_background bg (value (layer_of bg)) }
     {
-        Ok(inner::from_bg(Background::try_from(bg)?))
+        Ok(Layer::from(Background::try_from(bg)?))
+    }
+}
+
+impl From<Background> for Layer {
+    ghost from_gives = { λ bg layer. layer ≡ layer_of bg.number };
+
+    fn from(bg: Background) -> Layer {
+        match bg.number {
+            0 => Layer::Bg1,
+            1 => Layer::Bg2,
+            2 => Layer::Bg3,
+            _ => Layer::Bg4,
+        }
     }
 }
 

@@ -55,9 +55,7 @@ fn cells(out: &mut [u32; 264], vram: &[u16], g: &[u32; 256], p: BgDrawn, direct:
     for j in 0..33 {
         let t = character_row(vram, params, map_row, (first + j * 8) % width, py);
         let pixels = eight(vram, g, p, direct, t);
-        for k in 0..8 {
-            out[j * 8 + k] = pixels[k];
-        }
+        out[j * 8..j * 8 + 8].copy_from_slice(&pixels);
     }
 }
 
@@ -69,13 +67,8 @@ fn blocks(cells: &[u32; 264], fine: usize, block: usize) -> [u32; 272]
     ensures { take 256 result ≡ tab 256 (λ x. get_or cells.now (x - x % block + fine) 0) }
 {
     let mut line = [0; 272];
-    let mut start = 0;
-    while start < 256 {
-        let c = cells[start + fine];
-        for k in 0..16 {
-            line[start + k] = c;
-        }
-        start += block;
+    for start in (0..256).step_by(block) {
+        line[start..start + 16].fill(cells[start + fine]);
     }
     line
 }

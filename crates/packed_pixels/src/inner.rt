@@ -9,7 +9,6 @@ use line_laying::inner::mask;
 use line_pixels::Priority;
 use line_pixels::inner::{rank, select};
 use line_window::Window;
-use registers::constants::LAYERS;
 
 // The backdrop's code.
 pub const BACKDROP: u32 = 5;
@@ -78,8 +77,8 @@ fn column(back: u32, rows: &[[u32; 256]; 5], barred: &[[bool; 256]; 5], x: usize
     ensures { result ≡ line_rule back rows.now barred.now x }
 {
     let mut held = back;
-    for k in 0..LAYERS {
-        held = lay_unless(barred[k][x], held, rows[k][x]);
+    for (row, barred) in rows.iter().zip(barred) {
+        held = lay_unless(barred[x], held, row[x]);
     }
     held
 }

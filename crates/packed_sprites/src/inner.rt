@@ -55,8 +55,7 @@ fn draw(out: &mut [u32; 256], f: Fetched, vram: &[u16], g: &[u32; 256])
     ensures { out.new ≡ tab 256 (λ x. packed_if (drawn_all vram.now g.now (take f.count f.rows) x none)) }
 {
     let mut line = [0; 272];
-    for i in 0..f.count {
-        let s = f.rows[i];
+    for s in f.as_slice() {
         let at = (s.tile_x as usize + 8) % 512;
         if at >= 264 {
             continue;

@@ -58,7 +58,10 @@ impl Scene<'_> {
         let cgram = self.cgram;
         let before = bare(cgram[0], self.regs.coldata);
         let params = bg_params(self.regs, self.bg).params;
-        laid(before, bg_candidates(self.vram, cgram, self.regs, params, x, y))
+        laid(
+            before,
+            bg_candidates(self.vram, cgram, self.regs, params, x, y),
+        )
     }
 
     // A digest of row y at the first column, the last one and four others, which show what these lines

@@ -35,10 +35,7 @@ fn keep(line: &[LinePixel; 256], clip_mode: u8, inside: &[bool; 256]) -> [u16; 2
 fn colors(lines: &Lines, s: ColorMath, inside: &[bool; 256]) -> [u16; 256]
     ensures { result ≡ tab 256 (λ x. colour_of s (get_or lines.now.main x no_pixel) (get_or lines.now.sub x no_pixel) (get_or inside.now x false)) }
 {
-    if s.layers == 0 {
-        return keep(&lines.main, s.clip_mode, inside);
-    }
-    if s.math_region == 3 {
+    if s.layers == 0 || s.math_region == 3 {
         return keep(&lines.main, s.clip_mode, inside);
     }
     mix(lines, s, inside)

@@ -1,11 +1,11 @@
 // Each test, then the tests of each kind of call. A call whose tests are passed has its memories with
 // their lengths in the type, and its row with its range.
-ghost use Rattle.std.specs.Prelude.{◌≡◌, true, length, IfOk};
+ghost use Rattle.std.specs.Prelude.{◌≡◌, true, length, IfOk, eqb};
 ghost use Rattle.base_refusal.specs.Answer.{◌and_then◌};
 ghost use Rattle.base_refusal.specs.Numbers.{number_of};
 ghost use Rattle.base_refusal.specs.Results.{means, Passed};
 ghost use Rattle.base_refusal.specs.steps.Said.{said_of};
-ghost use Rattle.row_tests.specs.Tests.{test, row_number_test, vram_test, colour_test, oam_test, counter_test, row_tests, last_tests, lent_tests, bg_tests, choice_tests, part_tests};
+ghost use Rattle.row_tests.specs.Tests.{test, row_number_test, counter_test, row_tests, last_tests, lent_tests, bg_tests, choice_tests, part_tests};
 ghost use Rattle.row_tests.specs.steps.Memory.{Lends};
 
 use base_refusal::Refusal;
@@ -42,37 +42,15 @@ fn counter_tested(counter: u8) -> Result<(), Refusal>
     test(counter <= LARGEST_COUNTER, Refusal::Counter)
 }
 
-// VRAM, which is handed on.
-fn vram_tested<'a>(vram: &'a [u16]) -> Result<&'a [u16; 32768], Refusal>
-    ensures said { said_of result ≡ vram_test (length vram.now) }
-    ensures held { IfOk result (λ v. v.now ≡ vram.now) }
+// A memory of N elements, which is handed on, or the refusal of another length.
+fn sized<'a, T, const N: usize>(m: &'a [T], n: Refusal) -> Result<&'a [T; N], Refusal>
+    ensures said { said_of result ≡ test (eqb (length m.now) N) (number_of n) }
+    ensures held { IfOk result (λ a. a.now ≡ m.now) }
 {
-    match <&[u16; 32768]>::try_from(vram) {
-        Ok(words) => Ok(words),
-        Err(_) => Err(Refusal::Vram),
-    }
-}
-
-// Colour memory, which is handed on.
-fn colour_tested<'a>(cgram: &'a [u16]) -> Result<&'a [u16; 256], Refusal>
-    ensures said { said_of result ≡ colour_test (length cgram.now) }
-    ensures held { IfOk result (λ g. g.now ≡ cgram.now) }
-{
-    match <&[u16; 256]>::try_from(cgram) {
-        Ok(colours) => Ok(colours),
-        Err(_) => Err(Refusal::Colour),
-    }
-}
-
-// Sprite memory, which is handed on.
-fn oam_tested<'a>(oam: &'a [u8]) -> Result<&'a [u8; 544], Refusal>
-    ensures said { said_of result ≡ oam_test (length oam.now) }
-    ensures held { IfOk result (λ o. o.now ≡ oam.now) }
-{
-    match <&[u8; 544]>::try_from(oam) {
-        Ok(bytes) => Ok(bytes),
-        Err(_) => Err(Refusal::Oam),
-    }
+    let Ok(sized) = <&[T; N]>::try_from(m) else {
+        return Err(n);
+    };
+    Ok(sized)
 }
 
 // The row and the three memories. They are handed on.
@@ -86,9 +64,9 @@ fn row_tested<'a>(
     ensures held { IfOk result (λ m. Lends m.0 vram.now cgram.now oam.now × (m.1.number ≡ y)) }
 {
     let y = number_tested(y)?;
-    let vram = vram_tested(vram)?;
-    let cgram = colour_tested(cgram)?;
-    let oam = oam_tested(oam)?;
+    let vram = sized(vram, Refusal::Vram)?;
+    let cgram = sized(cgram, Refusal::Colour)?;
+    let oam = sized(oam, Refusal::Oam)?;
     Ok((Memory { vram, cgram, oam }, y))
 }
 
@@ -112,8 +90,8 @@ pub fn bg_tested<'a>(
     ensures held { IfOk result (λ g. (g.0.now ≡ cgram.now) × ((g.1.number ≡ y) × (in_range ≡ true))) }
 {
     let y = number_tested(y)?;
-    vram_tested(vram)?;
-    let cgram = colour_tested(cgram)?;
+    sized::<_, 32768>(vram, Refusal::Vram)?;
+    let cgram = sized(cgram, Refusal::Colour)?;
     last_tested(counter, in_range)?;
     Ok((cgram, y))
 }
@@ -166,7 +144,7 @@ pub fn choice_tested<'a>(y: usize, oam: &'a [u8]) -> Result<(&'a [u8; 544], Scre
     ensures held { IfOk result (λ o. (o.0.now ≡ oam.now) × (o.1.number ≡ y)) }
 {
     let y = number_tested(y)?;
-    let oam = oam_tested(oam)?;
+    let oam = sized(oam, Refusal::Oam)?;
     Ok((oam, y))
 }
 

@@ -61,11 +61,3 @@ pub fn words(out: &mut [u16], b: &[u8])
         out[i] = word_at(b, i * 2);
     }
 }
-
-// Fills sprite memory with the bytes of its section.
-pub fn copy(out: &mut [u8], b: &[u8])
-    requires { length b.now ≡ length out.old }
-    ensures { out.new ≡ b.now }
-{
-    out.copy_from_slice(b);
-}

@@ -10,7 +10,7 @@ use crate::SCENE_BYTES;
 use base_refusal::Refusal;
 use oam::OAM_SIZE;
 use registers::constants::LARGEST_COUNTER;
-use scene_bytes::inner::{copy, words};
+use scene_bytes::inner::words;
 
 // The bytes of the sections' bodies.
 pub const REGISTER_BYTES: usize = 48;
@@ -127,5 +127,5 @@ pub fn fill_bytes(out: &mut [u8], scene: &[u8], k: usize)
     requires { (k + length out.old ≤ 66656) × (66656 ≤ length scene.now) }
     ensures { out.new ≡ body_at scene.now k (length out.old) }
 {
-    copy(out, &scene[k..k + out.len()]);
+    out.copy_from_slice(&scene[k..k + out.len()]);
 }

@@ -1,12 +1,12 @@
 -- The loops of `draw`: what one more pixel of a tile does to the line, and one more tile.
 use Prim.Native.Nat.{ℕ, ◌+◌, ◌%◌, ◌<◌, ◌≤◌}
-use mathlib.Core.Path.{◌≡◌, refl, sym, ap, ◌∙◌}
+use mathlib.Core.Path.{◌≡◌, refl, sym, ap, subst, ◌∙◌}
 use mathlib.Core.Bool.{Bool, true, false}
 use mathlib.Core.List.{List, [], ◌∷◌, ◌++◌}
 use native.Mathlib.Omega.{arith}
 use native.Mathlib.Numerals.{add-one}
-use lib.ListN.{length, get_or, set, take, replicate}
-use lib.Seq.{take-suc}
+use lib.ListN.{length, get_or, set, take, replicate, length-take}
+use lib.Seq.{take-suc, get_or-take}
 use lib.Dec.{ltb, eqb}
 use borrow.Author.Tests.{lt-ltb, le-ltb, ltb-true, ltb-false, eq-eqb, ne_eqb, eqb-true, eqb-false}
 use Rattle.base_lists.specs.Tab.{tab}
@@ -17,7 +17,14 @@ use Rattle.tiles.specs.declared.BitDepth.TheVariants.{Four}
 use Rattle.tiles_row.specs.steps.Rows.{row_index}
 use Rattle.sprite_tile.specs.declared.PlacedRow.{PlacedRow}
 use Rattle.sprite_tile.specs.Tile.{sprite_colours, sprite_pixel_of}
-use Rattle.sprite_fetch.specs.steps.Walk.{blank_row, offset_in, drawn_to, drawn_all, drawn_line}
+use Rattle.sprite_tile.specs.steps.Placed.{PlacedSound}
+use Rattle.sprite_fetch.specs.steps.Walk.{blank_row, AllSound, offset_in, drawn_to, drawn_all, drawn_line}
+
+-- each of the tiles that a loop goes through has its fields in their ranges
+pub sound_at : (n : ℕ) (rows : List PlacedRow) {l : List PlacedRow} → AllSound n rows → l ≡ take n rows → (i : ℕ) → i < length l → PlacedSound (get_or l i blank_row)
+sound_at n rows {l} s e i h =
+    let low : i < n = omega (arith, ap length e, length-take n rows) in
+    subst (λ (t : PlacedRow). PlacedSound t) (sym (ap (λ (m : List PlacedRow). get_or m i blank_row) e ∙ get_or-take n rows i blank_row low)) (s i low)
 
 -- below k + 1 and not k: below k
 below_other : (a k : ℕ) → (a ≡ k → ⊥) → ltb a k ≡ ltb a (k + 1)

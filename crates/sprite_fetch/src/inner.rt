@@ -64,8 +64,7 @@ pub fn draw(f: Fetched, vram: &[u16], cgram: &[u16; 256]) -> [Candidate; 256]
     ensures { result ≡ drawn_line vram.now cgram.now (take f.count f.rows) }
 {
     let mut line = [Candidate::none(); 256];
-    for i in 0..f.count {
-        let s = f.rows[i];
+    for s in f.as_slice() {
         let tile = s.tile;
         let colors = palette(cgram, tile.palette);
         for k in 0..8 {

@@ -4,6 +4,8 @@
 
 pub mod inner;
 
+ghost use Rattle.std.specs.Prelude.{◌≡◌, take};
+
 use sprite_tile::PlacedRow;
 
 // The fetched tiles, in the order of the fetch: a list of 34 places with its length.
@@ -11,4 +13,13 @@ use sprite_tile::PlacedRow;
 pub struct Fetched {
     pub rows: [PlacedRow; 34],
     pub count: usize,
+}
+
+impl Fetched {
+    // The tiles that are fetched.
+    pub fn as_slice(&self) -> &[PlacedRow]
+        ensures { result.now ≡ take self.now.count self.now.rows }
+    {
+        &self.rows[..self.count.min(34)]
+    }
 }

@@ -14,7 +14,7 @@ ends_by a = by_cases (leb a 512) refl
 
 module _ (row objsel : ℕ) (interlace : Bool) (s : Sprite) {size : SpriteSize} {lines line : ℕ}
     (is-size : size ≡ size_in objsel s) (is-lines : lines ≡ lines_covered size interlace) (is-line : line ≡ line_of row s.y) where
-  pub misses : lines ≤ line → false ≡ in_range row objsel interlace s
+  pub misses : lines ≤ line → ltb line lines ≡ in_range row objsel interlace s
   unfolding meets_row
   misses h = rw (← is-size, ← is-lines, ← is-line, le-ltb line lines h)
 

@@ -28,10 +28,7 @@ fn passed_over(x9: u16, width: u8) -> bool
     requires { x9 < 512 }
     ensures { result ≡ passes x9 width }
 {
-    if x9 <= 256 {
-        return false;
-    }
-    x9 + width as u16 <= 512
+    256 < x9 && x9 + width as u16 <= 512
 }
 
 // Does the row meet the sprite, and is the sprite not passed over?
@@ -39,10 +36,7 @@ pub fn in_range(s: Sprite, row: u8, objsel: u8, obj_interlace: bool) -> bool
     ensures { result ≡ in_range row objsel obj_interlace s }
 {
     let size = sprite_size(objsel, s.large);
-    if sprite_line(row, s.y) >= lines(size, obj_interlace) {
-        return false;
-    }
-    !passed_over(nine_bits(s.x), size.width)
+    sprite_line(row, s.y) < lines(size, obj_interlace) && !passed_over(nine_bits(s.x), size.width)
 }
 
 // Does tile t of a sprite at the nine bits x9 count?
@@ -62,11 +56,7 @@ fn count_to(x9: u16, n: u16) -> usize
     requires { (x9 < 512) × (n ≤ 8) }
     ensures { (result ≡ count_to x9 n) × (result ≤ n) }
 {
-    let mut sum: usize = 0;
-    for t in 0..n {
-        sum += tile_counts(x9, t) as usize;
-    }
-    sum
+    (0..n).filter(|t| tile_counts(x9, *t)).count()
 }
 
 // A sprite's counting tiles.

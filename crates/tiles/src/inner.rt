@@ -11,8 +11,7 @@ pub const VRAM_WORDS: usize = 32768;
 pub fn word(vram: &[u16], address: usize) -> u16
     ensures { result ≡ vram_word vram.now address }
 {
-    let at = address % VRAM_WORDS;
-    if at < vram.len() { vram[at] } else { 0 }
+    vram.get(address % VRAM_WORDS).copied().unwrap_or(0)
 }
 
 // The word of a tile's row in one of its plane pairs, 8 words apart.

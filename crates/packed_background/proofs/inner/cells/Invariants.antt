@@ -1,15 +1,8 @@
-use Prim.Native.Nat.{◌+◌, ◌-◌, ◌*◌, ◌≤◌}
+use Prim.Native.Nat.{◌-◌, ◌*◌, ◌≤◌}
 use Rattle.base_lists.specs.steps.Filling.{Front}
 use Rattle.bg_row.specs.steps.Cells.{cell_at}
 use Rattle.packed_pixels.specs.steps.Packed.{packed_if}
 use Rattle.packed_background.proofs.inner.cells.Given as goal
-
-abbrev pub invariant-loop-k : goal.invariant-loop-k
-invariant-loop-k l =
-    Front 264 (λ i. packed_if (cell_at l.vram l.g l.p.params l.direct l.py i)) l.out (l.j * 8 + l.k) × (l.k ≤ 8)
-
-abbrev pub decreases-loop-k : goal.decreases-loop-k
-decreases-loop-k l = 8 - l.k
 
 abbrev pub invariant-loop-j : goal.invariant-loop-j
 invariant-loop-j l =

@@ -1,19 +1,15 @@
-use Rattle.std.proofs.Common.{◌≡◌, ℕ, ap, ◌∙◌, arith}
-use Rattle.sprite_row.proofs.Tiles.{count_none, count_more, byte_le}
-use Rattle.sprite_row.specs.SpriteRow.{count_to}
+use Rattle.std.proofs.Common.{◌≡◌, ◌∙◌, rules, tests, arith}
+use Rattle.std.proofs.lemmas.Iterator.{YieldsList-from_range}
+use Rattle.std.proofs.lemmas.Iterator.Consumers.{YieldsList-from_filter, count_from_yields_List}
+use Rattle.sprite_row.proofs.Tiles.{count_le, kept_all}
+use Rattle.sprite_row.specs.SpriteRow.{counts, count_to}
 use Rattle.sprite_row.proofs.inner.count_to.Goals as goal
 
-pub loop-t-init : goal.loop-t-init
-loop-t-init c = (omega arith, (omega arith, count_none _))
-
-pub overflow_add-sum : goal.overflow_add-sum
-overflow_add-sum c = omega (arith, byte_le c.tile_counts.result)
-
-pub loop-t-preserved : goal.loop-t-preserved
-loop-t-preserved c = let l = c.loop-t in
-    (omega arith, (omega (arith, byte_le c.tile_counts.result), count_more _ l.t l.sum _ l.invariant.1.1 c.tile_counts.ensures))
-
 pub returns : goal.returns
-returns c = let l = c.loop-t in
-    let e : l.t ≡ c.args.n = omega arith in
-    (l.invariant.1.1 ∙ ap (λ (n : ℕ). count_to c.args.x9 n) e, omega arith)
+returns c =
+    let a = c.args in
+    let is : c.count.result ≡ count_to a.x9 a.n =
+    count_from_yields_List c.filter.result c.count.result c.count.ensures.ran
+    (YieldsList-from_filter _ (counts a.x9) (YieldsList-from_range 0 a.n a.n (cc) (omega arith)) c.filter.ensures.closure (λ x r q k. search (rules, tests)))
+    ∙ kept_all a.x9 a.n in
+    (is, omega (arith, is, count_le a.x9 a.n))
