@@ -27,11 +27,14 @@ fn top(kind: Kind, first: u8, c: u16) -> u16 {
 
 // A scene of a kind, for which 512 numbers are drawn.
 pub(crate) fn fill(kind: Kind, first: u8, seed: u32) -> [u8; 544] {
-    sprites(seed, |n| Drawn {
-        place: place(kind),
-        top: top(kind, first, n.c),
-        large: n.a / 32 % 2 == 1,
-    })
+    sprites(
+        seed,
+        |n| Drawn {
+            place: place(kind),
+            top: top(kind, first, n.c),
+            large: n.a / 32 % 2 == 1,
+        },
+    )
 }
 
 // Every sprite left of the picture.

@@ -10,13 +10,13 @@ abbrev pub numbers_of : ℕ → ℕ → Four
 numbers_of k x = drawn_four (after_of (k * 4) x)
 
 -- sprite i, of its four numbers and what is made of them
-abbrev pub sprite_with : List ℕ → ℕ → Four → Drawn → List ℕ
-sprite_with l i n d = with_of l i (column_of d.place n.a n.b) d.top n.d d.large
+abbrev pub drawn_sprite : List ℕ → ℕ → Four → Drawn → List ℕ
+drawn_sprite l i n d = with_of l i (column_of d.place n.a n.b) d.top n.d d.large
 
 -- the first n sprites
 unfoldable pub sprites_at : (ℕ → Drawn) → ℕ → ℕ → List ℕ
 sprites_at g zero x = replicate 544 0
-sprites_at g (suc n) x = sprite_with (sprites_at g n x) n (numbers_of n x) (g n)
+sprites_at g (suc n) x = drawn_sprite (sprites_at g n x) n (numbers_of n x) (g n)
 
-abbrev pub sprites_of : (ℕ → Drawn) → ℕ → List ℕ
-sprites_of g x = sprites_at g 128 x
+abbrev pub drawn_memory : (ℕ → Drawn) → ℕ → List ℕ
+drawn_memory g x = sprites_at g 128 x

@@ -1,7 +1,7 @@
 // The sprites of a scene.
 ghost use Rattle.std.specs.Prelude.{ℕ, ◌≡◌, ◌%◌};
 ghost use Rattle.test_replay.specs.Placing.{beside_of, column_of, with_of};
-ghost use Rattle.test_replay.specs.Sprites.{numbers_of, sprites_of};
+ghost use Rattle.test_replay.specs.Sprites.{numbers_of, drawn_memory};
 
 use crate::drawing::{Four, drawn, high, low};
 use test_digest::second_table_byte;
@@ -72,7 +72,7 @@ pub struct Drawn {
 // its tile and its attributes.
 pub fn sprites<F: Fn(Four) -> Drawn>(seed: u32, of: F) -> [u8; 544]
     requires { F.IsAlwaysCallable of }
-    ensures { (g : ℕ → Drawn) → ((k : ℕ) → (d : Drawn) → F.post of (numbers_of k seed) d → d ≡ g k) → result ≡ sprites_of g seed }
+    ensures { (g : ℕ → Drawn) → ((k : ℕ) → (d : Drawn) → F.post of (numbers_of k seed) d → d ≡ g k) → result ≡ drawn_memory g seed }
 {
     let mut oam = [0u8; 544];
     let mut x = seed;

@@ -4,7 +4,7 @@ use Rattle.std.proofs.Common.{ap, ◌∙◌, arith, add-one}
 use Rattle.test_replay.specs.Drawing.{after_of}
 use Rattle.test_replay.specs.steps.Drawing.{after_next}
 use Rattle.test_replay.specs.Placing.{column_of, with_of}
-use Rattle.test_replay.specs.Sprites.{numbers_of, sprite_with, sprites_at}
+use Rattle.test_replay.specs.Sprites.{numbers_of, drawn_sprite, sprites_at}
 use Rattle.test_replay.specs.declared.drawing.Four.{Four}
 use Rattle.test_replay.specs.declared.placing.Drawn.{Drawn}
 
@@ -29,5 +29,5 @@ module _ (s : ℕ → Drawn) (x : ℕ) where
   unfolding sprites_at
   sprites_more i {l} {m} {n} {d} h e f k at w =
       let here : i % 128 ≡ i = omega arith in
-      let sprite : m ≡ sprite_with l i n d = w ∙ (λ j. with_of l (here j) (at j) d.top n.d d.large) in
-      rw (add-one i) (sprite ∙ (λ j. sprite_with (e j) i (f j) (k j)))
+      let sprite : m ≡ drawn_sprite l i n d = w ∙ (λ j. with_of l (here j) (at j) d.top n.d d.large) in
+      rw (add-one i) (sprite ∙ (λ j. drawn_sprite (e j) i (f j) (k j)))
