@@ -48,13 +48,13 @@ pub fn at_counter(registers: PPURegisters, counter: u8) -> PPURegisters
 
 // Draws row y of the frame, and says what the counter is after it.
 pub fn draw_row(
-    row: &mut [u8],
+    row: &mut [u8; 768],
     memory: Memory<'_>,
     r: PPURegisters,
     y: ScreenRow,
     counter: u8,
 ) -> u8
-    requires { (length row.old ≡ 768) × (counter ≡ counter_at r y.number) }
+    requires { counter ≡ counter_at r y.number }
     ensures { (row.new ≡ frame_row (lent_scene r memory.entry) y.number) × (result ≡ counter_at r (y.number + 1)) }
 {
     render(row, memory, at_counter(r, counter), y);
@@ -81,8 +81,8 @@ pub fn hand_line(bytes: &mut [u8], n: Refusal) -> Result<(), Refusal>
 
 // Draws the rows, one after another into one lent row, and hands each on; stops where one is not
 // taken, and says how far the plate has come.
-pub fn walk(row: &mut [u8], memory: Memory<'_>, r: PPURegisters, from: usize) -> usize
-    requires { (length row.old ≡ 768) × (from ≡ 15) }
+pub fn walk(row: &mut [u8; 768], memory: Memory<'_>, r: PPURegisters, from: usize) -> usize
+    requires { from ≡ 15 }
     ensures { Reached (lent_scene r memory.entry) row.new result }
 {
     let mut at = from;

@@ -42,8 +42,8 @@ fn colors(lines: &Lines, s: ColorMath, inside: &[bool; 256]) -> [u16; 256]
 }
 
 // Writes a row of colours at a brightness.
-pub fn brighten(row: &mut [u8], colors: &[u16; 256], brightness: u16)
-    requires { (length row.old ≡ 768) × (brightness < 16) }
+pub fn brighten(row: &mut [u8; 768], colors: &[u16; 256], brightness: u16)
+    requires { brightness < 16 }
     ensures { row.new ≡ tab 768 (row_byte_at (λ x. get_or colors.now x 0) brightness) }
 {
     for x in 0..SCREEN_WIDTH {
@@ -55,16 +55,14 @@ pub fn brighten(row: &mut [u8], colors: &[u16; 256], brightness: u16)
 }
 
 // Writes a black row.
-pub fn black(row: &mut [u8])
-    requires { length row.old ≡ 768 }
+pub fn black(row: &mut [u8; 768])
     ensures { row.new ≡ black_row }
 {
-    row.fill(0);
+    *row = [0; 768];
 }
 
 // Writes the row that both lines make.
-pub fn composite(row: &mut [u8], lines: &Lines, r: PPURegisters)
-    requires { length row.old ≡ 768 }
+pub fn composite(row: &mut [u8; 768], lines: &Lines, r: PPURegisters)
     ensures { row.new ≡ row_bytes r lines.now }
 {
     if r.force_blank() {

@@ -22,6 +22,7 @@ pub fn composite_line(row: &mut [u8], lines: &Lines, r: PPURegisters) -> Result<
 {
     let lent = row.len() == ROW_BYTES;
     lent_tested(lent, r.mosaic_vcounter)?;
+    let row = row.as_mut_array::<ROW_BYTES>().ok_or(Refusal::Lent)?;
     inner::composite(row, lines, r);
     Ok(())
 }

@@ -37,8 +37,7 @@ fn mixed(memory: Memory<'_>, r: PPURegisters, y: ScreenRow) -> [u16; 256]
 }
 
 // Draws row y into a lent row. Under forced blank nothing is laid.
-pub fn render(row: &mut [u8], memory: Memory<'_>, r: PPURegisters, y: ScreenRow)
-    requires { length row.old ≡ 768 }
+pub fn render(row: &mut [u8; 768], memory: Memory<'_>, r: PPURegisters, y: ScreenRow)
     ensures { row.new ≡ scene_row (lent_scene r memory.entry) y.number }
 {
     if r.force_blank() {

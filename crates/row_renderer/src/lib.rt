@@ -4,18 +4,30 @@
 
 pub mod inner;
 
-ghost use Rattle.std.specs.Prelude.{◌≡◌};
+ghost use Rattle.std.specs.Prelude.{◌≡◌, length};
 ghost use Rattle.base_refusal.specs.Results.{means};
 ghost use Rattle.registers.specs.Scene.{scene};
-ghost use Rattle.row_renderer.specs.Renderer.{row_outcome, picture_outcome};
+ghost use Rattle.row_tests.specs.Memory.{lent_scene};
+ghost use Rattle.row_renderer.specs.Renderer.{scene_row, row_outcome, picture_outcome};
 
 use base_refusal::Refusal;
 use registers::PPURegisters;
+use registers::screen_row::ScreenRow;
 use row_composite::ROW_BYTES;
-use row_tests::inner::draw_tested;
+use row_tests::inner::{Memory, draw_tested};
 
 // The bytes of a picture.
 pub const PICTURE_BYTES: usize = 172032;
+
+// Draws row y into a part that has a row's length.
+fn draw(row: &mut [u8], memory: Memory<'_>, r: PPURegisters, y: ScreenRow)
+    requires { length row.old ≡ 768 }
+    ensures { row.new ≡ scene_row (lent_scene r memory.entry) y.number }
+{
+    if let Some(row) = row.as_mut_array::<ROW_BYTES>() {
+        inner::render(row, memory, r, y);
+    }
+}
 
 // Draws row y into a lent row.
 pub fn render_scanline(
@@ -30,7 +42,7 @@ pub fn render_scanline(
 {
     let lent = row.len() == ROW_BYTES;
     let (memory, y) = draw_tested(y, vram, cgram, oam, lent, r.mosaic_vcounter)?;
-    inner::render(row, memory, r, y);
+    draw(row, memory, r, y);
     Ok(())
 }
 
@@ -49,6 +61,6 @@ pub fn render_into_picture(
     let (memory, y) = draw_tested(y, vram, cgram, oam, lent, r.mosaic_vcounter)?;
     let start = y.number * ROW_BYTES;
     let end = start + ROW_BYTES;
-    inner::render(&mut picture[start..end], memory, r, y);
+    draw(&mut picture[start..end], memory, r, y);
     Ok(())
 }

@@ -16,7 +16,7 @@ pub walk-requires : goal.walk-requires
 walk-requires c =
     let fifteen = ap length c.header-first.ensures in
     let at : c.hand-at.result ≡ 15 = ⊎_elim (λ e. omega arith) (λ e. absurd (c.if-at-eq0.false e)) c.hand-at.ensures.1 in
-    (search rules, at)
+    at
 
 pub returns : goal.returns
 returns c =

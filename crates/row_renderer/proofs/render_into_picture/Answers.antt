@@ -18,7 +18,7 @@ returns c =
     let told = c.in_ok-memory.ensures in
     let lends = told.held.0 in
     let same = told.held.1.0 in
-    let row = c.render.ensures ∙ (λ i. scene_row (scene a.r (lends.vram_is i) (lends.cgram_is i) (lends.oam_is i)) (same i)) in
+    let row = c.draw.ensures ∙ (λ i. scene_row (scene a.r (lends.vram_is i) (lends.cgram_is i) (lends.oam_is i)) (same i)) in
     let bytes = scene_row (scene a.r a.vram.now a.cgram.now a.oam.now) a.y in
     (λ i. record { said = value tt; left = take start p ++ (row i ++ Post-is start (start + 768) p (omega arith) i) })
     ∙ ((λ i. record { said = value tt; left = with_row p (same i) bytes })

@@ -2,11 +2,12 @@ use Prim.Native.Nat.{ℕ, ◌+◌}
 use mathlib.Core.Path.{ap, ◌∙◌}
 use mathlib.Core.Logic.{⊎_elim}
 use native.Mathlib.Omega.{arith}
+use borrow.Author.Rules.{rules}
 use Rattle.frame_library.proofs.Walk.{row_part_lem, walked_none, walked_more, walked_stopped, walked_all}
 use Rattle.frame_library.proofs.inner.walk.Goals as goal
 
 pub loop-y-init : goal.loop-y-init
-loop-y-init c = let p = c.requires in walked_none _ p.0 p.1
+loop-y-init c = walked_none _ c.told-row c.requires
 
 pub hand-next-requires : goal.hand-next-requires
 hand-next-requires c =
@@ -23,7 +24,7 @@ pub loop-y-preserved : goal.loop-y-preserved
 loop-y-preserved c =
     walked_more _ c.loop-y.invariant c.loop-y-test.true (c.hand-next.ensures.0 ∙ c.draw_row-counter.ensures.0) c.draw_row-counter.ensures.1
     (⊎_elim
-    (λ e. e ∙ ap (λ (n : ℕ). c.loop-y.at + n) (c.draw_row-counter.auto.row ∙ c.loop-y.invariant.long))
+    (λ e. e ∙ ap (λ (n : ℕ). c.loop-y.at + n) (search rules))
     (λ e. absurd (c.if-next-at.false e))
     c.hand-next.ensures.1)
 

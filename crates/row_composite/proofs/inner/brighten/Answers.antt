@@ -8,15 +8,7 @@ use Rattle.row_composite.proofs.Bytes.{byte_is}
 use Rattle.row_composite.proofs.inner.brighten.Goals as goal
 
 pub loop-x-init : goal.loop-x-init
-loop-x-init c = front_none c.requires.0
-
-pub bounds-row-x-in-loop-x : goal.bounds-row-x-in-loop-x
-bounds-row-x-in-loop-x c =
-    simp length-set (omega (arith, c.loop-x.invariant.long, c.loop-x-test.true))
-
-pub bounds-row-x-in-loop-x-2 : goal.bounds-row-x-in-loop-x-2
-bounds-row-x-in-loop-x-2 c =
-    simp length-set (omega (arith, c.loop-x.invariant.long, c.loop-x-test.true))
+loop-x-init c = front_none c.told-row
 
 pub loop-x-preserved : goal.loop-x-preserved
 unfolding at_brightness

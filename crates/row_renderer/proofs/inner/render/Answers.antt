@@ -13,10 +13,10 @@ use Rattle.packed_blend.specs.steps.Laws.{low16}
 use Rattle.row_tests.specs.Memory.{lent_scene}
 use Rattle.row_renderer.specs.Renderer.{scene_lines, scene_row}
 use Rattle.row_renderer.proofs.inner.render.Goals as goal
-use Rattle.row_renderer.proofs.inner.render.Goals.{After-slice_known-2-1}
+use Rattle.row_renderer.proofs.inner.render.Goals.{After-brighten}
 
 -- coldata is a word
-word : (c : After-slice_known-2-1) → c.args.r.coldata ≡ low16 c.args.r.coldata
+word : (c : After-brighten) → c.args.r.coldata ≡ low16 c.args.r.coldata
 word c = omega arith
 
 -- the low 16 bits of a colour are the colour, but for bit 15
