@@ -1,6 +1,7 @@
 // The sprite memories that are searched.
 use test_replay::drawing::drawn;
-use test_replay::placing::{Drawn, Place, column, sprites, write};
+use test_replay::inner::sprites;
+use test_replay::placing::{Drawn, Place, column, write};
 
 // A kind of scenes: any column and top; a crowd at the first row; tops from 240 on.
 #[derive(Clone, Copy)]

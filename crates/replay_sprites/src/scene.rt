@@ -1,7 +1,8 @@
 // The registers and the sprites of a scene.
 use registers::PPURegisters;
 use test_replay::drawing::{ends, low};
-use test_replay::placing::{Drawn, Place, sprites};
+use test_replay::inner::sprites;
+use test_replay::placing::{Drawn, Place};
 use test_replay::section;
 
 // Which bytes of the numbers drawn the registers have: objsel and setini, the windows of sprites, tmw, tsw

@@ -58,7 +58,7 @@ pub fn brighten(row: &mut [u8; 768], colors: &[u16; 256], brightness: u16)
 pub fn black(row: &mut [u8; 768])
     ensures { row.new ≡ black_row }
 {
-    *row = [0; 768];
+    row.fill(0);
 }
 
 // Writes the row that both lines make.

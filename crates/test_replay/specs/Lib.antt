@@ -2,7 +2,6 @@ pub mod Replay
 pub mod Drawing
 pub mod Memory
 pub mod Placing
-pub mod Sprites
 pub mod Section
 pub mod Pixels
 pub mod theorems

@@ -5,6 +5,7 @@
 #![tactic(auto)]
 
 pub mod drawing;
+pub mod inner;
 pub mod memory;
 pub mod pixels;
 pub mod placing;

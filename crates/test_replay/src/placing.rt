@@ -1,9 +1,8 @@
 // The sprites of a scene.
-ghost use Rattle.std.specs.Prelude.{ℕ, ◌≡◌, ◌%◌};
+ghost use Rattle.std.specs.Prelude.{◌≡◌, ◌%◌};
 ghost use Rattle.test_replay.specs.Placing.{beside_of, column_of, with_of};
-ghost use Rattle.test_replay.specs.Sprites.{numbers_of, drawn_memory};
 
-use crate::drawing::{Four, drawn, high, low};
+use crate::drawing::{high, low};
 use test_digest::second_table_byte;
 
 // Where a sprite stands: at any column; at a column at which a rule changes for some width, or beside
@@ -66,21 +65,4 @@ pub struct Drawn {
     pub place: Place,
     pub top: u16,
     pub large: bool,
-}
-
-// Sprite memory, for which four numbers are drawn for each sprite: its column, what `of` makes of them,
-// its tile and its attributes.
-pub fn sprites<F: Fn(Four) -> Drawn>(seed: u32, of: F) -> [u8; 544]
-    requires { F.IsAlwaysCallable of }
-    ensures { (g : ℕ → Drawn) → ((k : ℕ) → (d : Drawn) → F.post of (numbers_of k seed) d → d ≡ g k) → result ≡ drawn_memory g seed }
-{
-    let mut oam = [0u8; 544];
-    let mut x = seed;
-    for i in 0..128 {
-        let n = drawn(x);
-        let d = of(n);
-        write(&mut oam, i, column(d.place, n.a, n.b), d.top, n.d, d.large);
-        x = n.x;
-    }
-    oam
 }

@@ -4,7 +4,7 @@ use Rattle.std.proofs.Common.{ap, ◌∙◌, arith, add-one}
 use Rattle.test_replay.specs.Drawing.{after_of}
 use Rattle.test_replay.specs.steps.Drawing.{after_next}
 use Rattle.test_replay.specs.Placing.{column_of, with_of}
-use Rattle.test_replay.specs.Sprites.{numbers_of, drawn_sprite, sprites_at}
+use Rattle.test_replay.specs.steps.SpriteMemory.{numbers_of, drawn_sprite, sprites_at}
 use Rattle.test_replay.specs.declared.drawing.Four.{Four}
 use Rattle.test_replay.specs.declared.placing.Drawn.{Drawn}
 

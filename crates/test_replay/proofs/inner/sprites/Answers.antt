@@ -1,10 +1,10 @@
 use Rattle.std.proofs.Common.{ℕ, ◌≡◌, refl, sym, ap, subst, arith, ◌∙◌}
 use Rattle.test_replay.specs.Drawing.{drawn_four}
-use Rattle.test_replay.specs.Sprites.{numbers_of, sprites_at}
+use Rattle.test_replay.specs.steps.SpriteMemory.{numbers_of, sprites_at}
 use Rattle.test_replay.specs.steps.Drawing.{after_none}
 use Rattle.test_replay.specs.steps.Sprites.{after_four, sprites_none, sprites_more}
 use Rattle.test_replay.specs.declared.drawing.Four.{Four}
-use Rattle.test_replay.proofs.placing.sprites.Goals as goal
+use Rattle.test_replay.proofs.inner.sprites.Goals as goal
 
 pub loop-i-init : goal.loop-i-init
 loop-i-init g c = (omega arith, sym (after_none _), λ s f. sprites_none s _)

@@ -1,8 +1,8 @@
 use Rattle.std.proofs.Common.{ℕ, ◌≡◌, ◌*◌, ◌≤◌}
 use Rattle.test_replay.specs.Drawing.{after_of}
-use Rattle.test_replay.specs.Sprites.{numbers_of, sprites_at}
+use Rattle.test_replay.specs.steps.SpriteMemory.{numbers_of, sprites_at}
 use Rattle.test_replay.specs.declared.placing.Drawn.{Drawn}
-use Rattle.test_replay.proofs.placing.sprites.Given as goal
+use Rattle.test_replay.proofs.inner.sprites.Given as goal
 
 abbrev pub invariant-loop-i : goal.invariant-loop-i
 invariant-loop-i g l =
