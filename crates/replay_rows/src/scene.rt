@@ -2,9 +2,8 @@
 use crate::kinds::Kind;
 use registers::PPURegisters;
 use test_replay::drawing::nth;
-use test_replay::inner::sprites;
 use test_replay::placing::{Drawn, Place};
-use test_replay::section;
+use test_replay::{inner, section};
 
 // A scene: the memories and the registers.
 #[derive(Clone, Copy)]
@@ -66,7 +65,7 @@ fn top(kind: Kind, turn: u8, c: u16) -> u16 {
 
 // Sprite memory, for which 512 numbers are drawn.
 pub(crate) fn sprites(kind: Kind, turn: u8, seed: u32) -> [u8; 544] {
-    sprites(
+    inner::sprites(
         seed,
         |n| Drawn {
             place: place(kind, n.a),
