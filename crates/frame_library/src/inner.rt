@@ -5,6 +5,7 @@ ghost use Rattle.base_refusal.specs.Answer.{refused};
 ghost use Rattle.base_refusal.specs.Numbers.{number_of};
 ghost use Rattle.base_refusal.specs.Results.{means};
 ghost use Rattle.registers.specs.Replaced.{with_counter};
+ghost use Rattle.registers.specs.Scene.{scene};
 ghost use Rattle.base_refusal_line.specs.Lines.{refused_line};
 ghost use Rattle.row_tests.specs.Memory.{lent_scene};
 ghost use Rattle.frame_library.specs.Frame.{counter_after, counter_at, frame_row, plate_header, Part, Come, Reached};
@@ -63,8 +64,15 @@ pub fn draw_row(
 
 // Hands on the bytes that a scene's plate has from byte `at` on, and says how far it has come. It is
 // given the scene only for what it requires of the bytes.
-pub fn hand(bytes: &mut [u8], memory: Memory<'_>, r: PPURegisters, at: usize) -> usize
-    requires { Part (lent_scene r memory) at bytes.old }
+pub fn hand(
+    bytes: &mut [u8],
+    vram: &[u16],
+    cgram: &[u16],
+    oam: &[u8],
+    r: PPURegisters,
+    at: usize,
+) -> usize
+    requires { Part (scene r vram.now cgram.now oam.now) at bytes.old }
     ensures { (bytes.new ≡ bytes.old) × Come at (length bytes.old) result }
 {
     at + moved(Way::Plate, bytes)
@@ -85,11 +93,12 @@ pub fn walk(row: &mut [u8; 768], memory: Memory<'_>, r: PPURegisters, from: usiz
     requires { from ≡ 15 }
     ensures { Reached (lent_scene r memory.entry) row.new result }
 {
+    let Memory { vram, cgram, oam } = memory;
     let mut at = from;
     let mut counter = r.mosaic_vcounter;
     for y in 0..SCREEN_HEIGHT {
         counter = draw_row(row, memory, r, ScreenRow { number: y }, counter);
-        let next = hand(row, memory, r, at);
+        let next = hand(row, vram, cgram, oam, r, at);
         if next == at {
             return at;
         }

@@ -34,7 +34,8 @@ fn show(memory: Memory<'_>, body: &[u8; 48]) -> usize
     let r = registers(body);
     let mut first = header();
     let mut row = [0u8; 768];
-    let at = hand(&mut first, memory, r, 0);
+    let Memory { vram, cgram, oam } = memory;
+    let at = hand(&mut first, vram, cgram, oam, r, 0);
     if at == 0 {
         return 0;
     }

@@ -12,10 +12,11 @@ use base_refusal::Refusal;
 use registers::constants::LARGEST_COUNTER;
 use registers::screen_row::ScreenRow;
 
-// The lent memories that a row is drawn from.
+// The lent memories that a row is drawn from. VRAM is a slice: a word of it is read where it is needed, and what
+// draws a row asks nothing of its length.
 #[derive(Clone, Copy)]
 pub struct Memory<'a> {
-    pub vram: &'a [u16; 32768],
+    pub vram: &'a [u16],
     pub cgram: &'a [u16; 256],
     pub oam: &'a [u8; 544],
 }
@@ -64,7 +65,7 @@ fn row_tested<'a>(
     ensures held { IfOk result (λ m. Lends m.0 vram.now cgram.now oam.now × (m.1.number ≡ y)) }
 {
     let y = number_tested(y)?;
-    let vram = sized(vram, Refusal::Vram)?;
+    sized::<_, 32768>(vram, Refusal::Vram)?;
     let cgram = sized(cgram, Refusal::Colour)?;
     let oam = sized(oam, Refusal::Oam)?;
     Ok((Memory { vram, cgram, oam }, y))
