@@ -147,7 +147,7 @@ pub fn bg_params(r: PPURegisters, bg: Background) -> BgDrawn
     let scroll = bg_scroll(r, bg);
     let params = BgParams {
         tilemap_base: bg_tilemap_addr(r, bg),
-        tiledata_base: bg_tiledata_addr(r, bg),
+        tiledata_base: bg_tiledata_addr(r, bg.number),
         scroll_x: scroll.x,
         scroll_y: scroll.y,
         bpp: mode.bpp,

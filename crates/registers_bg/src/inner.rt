@@ -13,10 +13,11 @@ pub fn bg_tilemap_addr(r: PPURegisters, bg: Background) -> u16
     (r.bgsc[bg.number] / 4 % 32) as u16 * 1024
 }
 
-pub fn bg_tiledata_addr(r: PPURegisters, bg: Background) -> u16
-    ensures { result ≡ tile_base r bg.number }
+// Of every number: it reads no array.
+pub fn bg_tiledata_addr(r: PPURegisters, bg: usize) -> u16
+    ensures { result ≡ tile_base r bg }
 {
-    (nibble(r.bg12nba, r.bg34nba, bg.number) % 8) as u16 * 4096
+    (nibble(r.bg12nba, r.bg34nba, bg) % 8) as u16 * 4096
 }
 
 pub fn bg_tilemap_size(r: PPURegisters, bg: Background) -> MapSize

@@ -41,7 +41,7 @@ pub fn bg_tilemap_addr(r: PPURegisters, bg: usize) -> Result<u16, Refusal>
 pub fn bg_tiledata_addr(r: PPURegisters, bg: usize) -> Result<u16, Refusal>
     ensures { means result ≡ of_background bg (value (tile_base r bg)) }
 {
-    Ok(inner::bg_tiledata_addr(r, Background::try_from(bg)?))
+    Ok(inner::bg_tiledata_addr(r, Background::try_from(bg)?.number))
 }
 
 // The size of its map.
