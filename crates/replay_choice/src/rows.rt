@@ -1,4 +1,6 @@
 // The rows of a scene.
+ghost use Rattle.std.specs.Prelude.{◌<◌};
+
 use crate::scene;
 use crate::scene::Kind;
 use oam_flags::OamFlags;
@@ -14,7 +16,9 @@ fn choose(oam: &[u8], row: usize, objsel: u8, oamadd: u16, interlace: bool) -> C
 }
 
 // 1 for time over, and 2 for range over.
-fn flags(time_over: bool, range_over: bool) -> u64 {
+fn flags(time_over: bool, range_over: bool) -> u64
+    ensures { result < 4 }
+{
     u64::from(time_over) + u64::from(range_over) * 2
 }
 

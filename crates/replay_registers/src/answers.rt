@@ -1,7 +1,19 @@
 // What an answer holds, as a number.
+ghost use Rattle.std.specs.Prelude.{◌<◌};
+
 use base_refusal::Refusal;
 use registers_bg::{MapSize, Scroll};
 use test_replay::settle;
+
+// 1 for true, 0 for false.
+pub(crate) fn bit(answer: Result<bool, Refusal>) -> u64
+    ensures { result < 2 }
+{
+    match settle(answer) {
+        Ok(true) => 1,
+        _ => 0,
+    }
+}
 
 pub(crate) fn number<T: Copy + Into<u64>>(answer: Result<T, Refusal>) -> u64 {
     settle(answer).map_or(0, Into::into)

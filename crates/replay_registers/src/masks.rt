@@ -1,5 +1,7 @@
 // The windows at ten layouts of their edges.
-use crate::answers::number;
+ghost use Rattle.std.specs.Prelude.{◌<◌};
+
+use crate::answers::bit;
 use registers::PPURegisters;
 use test_replay::hex;
 
@@ -69,13 +71,15 @@ fn window(edges: [u8; 4], fill: u8, which: usize, bits: u8, by: u8) -> PPURegist
     }
 }
 
-fn says(r: PPURegisters, asked: Asked, x: usize) -> u64 {
+fn says(r: PPURegisters, asked: Asked, x: usize) -> u64
+    ensures { result < 2 }
+{
     match asked {
-        Asked::Background(bg) => number(registers_windows::bg_window_masked(r, bg, x)),
-        Asked::Sprites => number(registers_windows::obj_window_masked(r, x)),
-        Asked::Colour => number(registers_windows::in_color_window(r, x)),
-        Asked::First => number(registers_windows::in_window1(r, x)),
-        Asked::Second => number(registers_windows::in_window2(r, x)),
+        Asked::Background(bg) => bit(registers_windows::bg_window_masked(r, bg, x)),
+        Asked::Sprites => bit(registers_windows::obj_window_masked(r, x)),
+        Asked::Colour => bit(registers_windows::in_color_window(r, x)),
+        Asked::First => bit(registers_windows::in_window1(r, x)),
+        Asked::Second => bit(registers_windows::in_window2(r, x)),
     }
 }
 

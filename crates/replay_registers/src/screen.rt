@@ -1,5 +1,5 @@
 // The readers of the whole screen.
-use crate::answers::number;
+use crate::answers::bit;
 use crate::scattered;
 use base_refusal::Refusal;
 use registers::PPURegisters;
@@ -11,7 +11,7 @@ fn layers<F: Fn(usize) -> Result<bool, Refusal>>(lit: F) -> u64
 {
     let mut bits: u64 = 0;
     for layer in (0..5).rev() {
-        bits = bits << 1 | number(lit(layer));
+        bits = bits << 1 | bit(lit(layer));
     }
     bits
 }

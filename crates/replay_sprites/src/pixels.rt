@@ -1,11 +1,15 @@
 // What the list holds of a pixel.
+ghost use Rattle.std.specs.Prelude.{◌<◌};
+
 use line_pixels::{Candidate, Layer, LinePixel, Lines, Priority, deposit};
-use test_digest::fold;
+use test_digest::{fold, one};
 use test_replay::agree;
 use test_replay::pixels::same;
 
 // A third of a sprite's priority, 0 for the backdrop's, 7 for any other.
-fn third(z: Priority) -> u64 {
+fn third(z: Priority) -> u64
+    ensures { result < 8 }
+{
     if z == Priority::BACKDROP {
         return 0;
     }
@@ -18,7 +22,9 @@ fn third(z: Priority) -> u64 {
 }
 
 // 1 for a sprite, 0 for the backdrop, 2 for any other.
-fn origin(layer: Layer) -> u64 {
+fn origin(layer: Layer) -> u64
+    ensures { result < 3 }
+{
     match layer {
         Layer::Backdrop => 0,
         Layer::Obj => 1,
@@ -28,9 +34,11 @@ fn origin(layer: Layer) -> u64 {
 
 // The colour, and 32,768 times the marks: 16 for a sprite, 2 times a third of its priority, 1 for the
 // math mark.
-fn whole(p: LinePixel) -> u64 {
-    let marks = origin(p.layer) << 4 | third(p.z) << 1 | u64::from(p.obj_math);
-    marks << 15 | u64::from(p.color % 32768)
+fn whole(p: LinePixel) -> u64
+    ensures { result < 4294967296 }
+{
+    let marks = origin(p.layer) * 16 + third(p.z) * 2 + one(p.obj_math);
+    marks * 32768 + u64::from(p.color % 32768)
 }
 
 // All of main, then sub's colour and 32,768 for a sprite.

@@ -1,13 +1,20 @@
 // Replays the oracle's list `tiles`: the three decoders over a VRAM of random words.
 #![tactic(auto)]
 
+ghost use Rattle.std.specs.Prelude.{◌<◌};
+
 use base_refusal::Refusal;
 use test_numbers::{next, word};
 use test_replay::{hex, settle};
 
 // The colour index.
-fn index(answer: Result<u8, Refusal>) -> u64 {
-    settle(answer).map_or(0, u64::from)
+fn index(answer: Result<u8, Refusal>) -> u64
+    ensures { result < 256 }
+{
+    match settle(answer) {
+        Ok(n) => u64::from(n),
+        Err(_) => 0,
+    }
 }
 
 fn fill(vram: &mut [u16]) {
