@@ -1,15 +1,15 @@
 // What the public calls of this crate stand on, for the crates above.
 ghost use Rattle.std.specs.Prelude.{◌≡◌, ◌<◌};
-ghost use Rattle.line_laying.specs.Laying.{candidates_of, lay_line, lay_lines};
+ghost use Rattle.line_laying.specs.Laying.{candidates_of, lay_lines};
 ghost use Rattle.bg_row.specs.Row.{bg_pixel};
 ghost use Rattle.bg_layer.specs.Background.{bg_shown_by};
 
 use bg_map::inner::{BgDrawn, source_column, source_line};
 use bg_tile::inner::pixel;
-use line_laying::inner::on_screens;
+use line_laying::inner::{on_screens, whole};
 use line_laying::{Candidates, Shown};
+use line_pixels::Lines;
 use line_pixels::inner::bg_index;
-use line_pixels::{LinePixel, Lines};
 use registers::PPURegisters;
 use registers::background::Background;
 use registers::inner::bit;
@@ -51,26 +51,7 @@ pub fn candidates(
     on_screens(c, shown(r, p), x)
 }
 
-// Lays the background over the lines of both screens. Where neither screen lights it, nothing is drawn.
-fn lay_on(
-    main: &mut [LinePixel; 256],
-    sub: &mut [LinePixel; 256],
-    vram: &[u16],
-    cgram: &[u16; 256],
-    r: PPURegisters,
-    p: BgDrawn,
-    y: ScreenRow,
-)
-    ensures main { main.new ≡ lay_line (λ x. (candidates_of (bg_shown_by r p.params) x (bg_pixel vram.now cgram.now r p.params y.number x)).main) main.old }
-    ensures sub { sub.new ≡ lay_line (λ x. (candidates_of (bg_shown_by r p.params) x (bg_pixel vram.now cgram.now r p.params y.number x)).sub) sub.old }
-{
-    if p.params.to_main | p.params.to_sub {
-        let row = bg_row::inner::row(vram, cgram, r, p, y);
-        line_laying::inner::lay(main, sub, &row, shown(r, p));
-    }
-}
-
-// Lays the background over both lines.
+// Lays the background over both lines. Where neither screen lights it, nothing is drawn.
 pub fn lay(
     lines: &mut Lines,
     vram: &[u16],
@@ -81,5 +62,9 @@ pub fn lay(
 )
     ensures { lines.new ≡ lay_lines (bg_shown_by r p.params) (bg_pixel vram.now cgram.now r p.params y.number) lines.old }
 {
-    lay_on(&mut lines.main, &mut lines.sub, vram, cgram, r, p, y);
+    whole(&lines.main, &lines.sub);
+    if p.params.to_main | p.params.to_sub {
+        let row = bg_row::inner::row(vram, cgram, r, p, y);
+        line_laying::lay(lines, &row, shown(r, p));
+    }
 }

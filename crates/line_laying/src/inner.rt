@@ -1,5 +1,5 @@
 // What the public calls of this crate stand on: one screen at a time, and one column.
-ghost use Rattle.std.specs.Prelude.{◌≡◌, false, ◌&&◌, not, get_or};
+ghost use Rattle.std.specs.Prelude.{◌≡◌, false, ◌&&◌, not, get_or, length};
 ghost use Rattle.base_lists.specs.Tab.{tab};
 ghost use Rattle.line_window.specs.Window.{masked};
 ghost use Rattle.line_laying.specs.Laying.{on_screen, candidates_of, candidate_in, lay_line};
@@ -82,6 +82,11 @@ pub fn on_screens(c: Candidate, s: Shown, x: usize) -> Candidates
         sub: on_screen(c, s.to_sub & !(s.win_sub & masked)),
     }
 }
+
+// Nothing is done. Both lines have 256 pixels: said for a caller to whom they are lent in one struct.
+pub fn whole(main: &[LinePixel; 256], sub: &[LinePixel; 256])
+    ensures { (length main.now ≡ 256) × (length sub.now ≡ 256) }
+{}
 
 // Lays a row over the lines of both screens.
 pub fn lay(

@@ -1,14 +1,14 @@
 // What the public calls of this crate stand on, for the crates above.
 ghost use Rattle.std.specs.Prelude.{◌≡◌, ◌<◌, ◌≤◌};
 ghost use Rattle.base_lists.specs.Tab.{tab};
-ghost use Rattle.line_laying.specs.Laying.{candidates_of, lay_line, lay_lines};
+ghost use Rattle.line_laying.specs.Laying.{candidates_of, lay_lines};
 ghost use Rattle.sprite_layer.specs.Sprites.{view_of, chosen_sprites, sprite_pixel, sprites_shown};
 ghost use Rattle.sprite_fetch.specs.Fetch.{fetched};
 ghost use Rattle.sprite_fetch.specs.steps.Walk.{fetched_list, AllSound};
 
-use line_laying::inner::{lay_few, on_screens};
-use line_laying::{Candidates, Shown};
-use line_pixels::{Candidate, LinePixel, Lines};
+use line_laying::inner::{on_screens, whole};
+use line_laying::{Candidates, Shown, lay_few};
+use line_pixels::{Candidate, Lines};
 use oam::OAM_SIZE;
 use registers::PPURegisters;
 use registers::constants::OBJ_LAYER;
@@ -73,27 +73,14 @@ pub fn candidates(memory: Memory<'_>, r: PPURegisters, x: usize, y: ScreenRow) -
     on_screens(line[x], shown(r), x)
 }
 
-// Lays the sprites over the lines of both screens. Where neither screen lights them, nothing is drawn.
-fn lay_on(
-    main: &mut [LinePixel; 256],
-    sub: &mut [LinePixel; 256],
-    memory: Memory<'_>,
-    r: PPURegisters,
-    y: ScreenRow,
-)
-    ensures main { main.new ≡ lay_line (λ x. (candidates_of (sprites_shown r) x (sprite_pixel memory.entry.vram.now memory.entry.cgram.now memory.entry.oam.now r y.number x)).main) main.old }
-    ensures sub { sub.new ≡ lay_line (λ x. (candidates_of (sprites_shown r) x (sprite_pixel memory.entry.vram.now memory.entry.cgram.now memory.entry.oam.now r y.number x)).sub) sub.old }
-{
-    let shown = shown(r);
-    if shown.to_main | shown.to_sub {
-        let line = line(memory, r, y);
-        lay_few(main, sub, &line, shown);
-    }
-}
-
-// Lays the sprites over both lines.
+// Lays the sprites over both lines. Where neither screen lights them, nothing is drawn.
 pub fn lay(lines: &mut Lines, memory: Memory<'_>, r: PPURegisters, y: ScreenRow)
     ensures { lines.new ≡ lay_lines (sprites_shown r) (sprite_pixel memory.entry.vram.now memory.entry.cgram.now memory.entry.oam.now r y.number) lines.old }
 {
-    lay_on(&mut lines.main, &mut lines.sub, memory, r, y);
+    whole(&lines.main, &lines.sub);
+    let shown = shown(r);
+    if shown.to_main | shown.to_sub {
+        let line = line(memory, r, y);
+        lay_few(lines, &line, shown);
+    }
 }
