@@ -11,8 +11,8 @@ pub mod screen_row;
 
 ghost use Rattle.std.specs.Prelude.{◌≡◌};
 ghost use Rattle.base_refusal.specs.Results.{means};
-ghost use Rattle.registers.specs.steps.Background.{IsBackground};
-ghost use Rattle.registers.specs.steps.ScreenRow.{IsScreenRow};
+ghost use Rattle.registers.specs.Background.{IsBackground};
+ghost use Rattle.registers.specs.ScreenRow.{IsScreenRow};
 ghost use Rattle.registers.specs.Screen.{cleared, mode_of, direct_colour_set, blanked, brightness_of, sprite_interlace, layer_bit};
 
 use background::Background;

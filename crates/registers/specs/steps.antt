@@ -1,2 +1,0 @@
-pub mod Background
-pub mod ScreenRow
